@@ -1,0 +1,50 @@
+-- How the tables refer to each other: links to files, streams to files, live opens, parents.
+use Prim.Native.Nat.{ℕ, zero, suc}
+use mathlib.Core.Bool.{Bool, true, false, cond, _&&_}
+use mathlib.Core.List.{List, [], _∷_}
+use lib.Dec.{eqb}
+use lib.ListN.{length}
+use Rattle.bits.specs.Bits.{within}
+use Rattle.lists.specs.Lists.{all, keep, isEmpty}
+use Rattle.records.specs.Sizes.{accounts}
+use Rattle.records.specs.Constants.{allAccess}
+use Rattle.records.specs.Slots.{linkUsed, openUsed}
+use Rattle.records.specs.Namespace.{BareStream, bareUsed}
+use Rattle.records.specs.declared.FileNo.{FileNo}
+use Rattle.records.specs.declared.Link.{Link}
+use Rattle.records.specs.declared.Open.{Open}
+use Rattle.names.specs.Names.{units}
+
+-- a mask for each account, each within 0x1F01FF
+unfoldable pub validMasks : List ℕ → Bool
+validMasks ms = eqb (length ms) accounts && all (λ m. within m allAccess) ms
+
+-- a used link names the file
+unfoldable pub linkTo : FileNo → Link → Bool
+linkTo f l = linkUsed l && eqb (l .file .0) (f .0)
+
+-- a used stream is the file's; and it has the empty name
+unfoldable pub streamOf : FileNo → BareStream → Bool
+streamOf f s = bareUsed s && eqb (s .file .0) (f .0)
+
+unfoldable pub unnamedOf : FileNo → BareStream → Bool
+unnamedOf f s = streamOf f s && isEmpty (units (s .name))
+
+-- the opens of the table that are live
+unfoldable pub live : List Open → List Open
+live os = keep openUsed os
+
+-- the parent of a file: that of its lowest link; of a file without a link, itself
+unfoldable pub parentOf : List Link → FileNo → FileNo
+parentOf [] f = f
+parentOf (l ∷ ls) f = elim (linkTo f l) [ true ↦ l .parent | false ↦ parentOf ls f ]
+
+-- n steps up
+unfoldable pub climb : List Link → ℕ → FileNo → FileNo
+climb ls zero f = f
+climb ls (suc n) f = climb ls n (parentOf ls f)
+
+-- the root is at most n steps up
+unfoldable pub reaches : List Link → ℕ → FileNo → Bool
+reaches ls zero f = eqb (f .0) 0
+reaches ls (suc n) f = elim (eqb (f .0) 0) [ true ↦ true | false ↦ reaches ls n (parentOf ls f) ]

@@ -1,0 +1,65 @@
+-- Format: eight masks and a read-only mark make fresh tables. It needs right lengths, tested before the masks.
+use Prim.Native.Nat.{ℕ}
+use mathlib.Core.Bool.{Bool, true, false, not, _&&_}
+use mathlib.Core.List.{List, [], _∷_}
+use lib.Dec.{eqb}
+use lib.ListN.{length, replicate}
+use Rattle.lists.specs.Lists.{all}
+use Rattle.records.specs.Sizes.{fileSlots, linkSlots, streamSlots, openSlots, fileNameLimit, streamNameLimit, accounts}
+use Rattle.records.specs.Constants.{directory}
+use Rattle.records.specs.Slots.{root, zeroFile, zeroLink, zeroCounts, zeroStream, zeroOpen}
+use Rattle.records.specs.Checked.{Checked, refused, passed, _>>_, refuseIf}
+use Rattle.records.specs.declared.Status.the-variants.{FileCorruptError, InvalidParameter}
+use Rattle.records.specs.declared.FileType.the-variants.{Directory}
+use Rattle.records.specs.declared.Outcome.the-variants.{Done, Refused}
+use Rattle.records.specs.declared.File.{File}
+use Rattle.records.specs.declared.Stream.{Stream}
+use Rattle.records.specs.declared.Volume.{Volume}
+use Rattle.records.specs.declared.OpenTable.{OpenTable}
+use Rattle.records.specs.declared.Answer.{Answer}
+use Rattle.consistency.specs.Relations.{validMasks}
+
+-- "lengths are as above": of the tables, and of the arrays in their records
+unfoldable pub rightLengths : Volume → OpenTable → Bool
+rightLengths v t =
+    eqb (length (v .files)) fileSlots
+    && eqb (length (v .links)) linkSlots
+    && eqb (length (v .streams)) streamSlots
+    && eqb (length (t .rows)) openSlots
+    && all (λ f. eqb (length (f .masks)) accounts) (v .files)
+    && all (λ l. eqb (length (l .name)) fileNameLimit) (v .links)
+    && all (λ s. eqb (length (s .name)) streamNameLimit) (v .streams)
+
+-- file 0 and its stream
+unfoldable pub rootFile : List ℕ → File
+rootFile masks = record { «file_type» = Directory; attributes = directory; masks = masks }
+
+abbrev pub rootStream : Stream
+rootStream =
+    record { file = root; «stream_type» = Directory; name = replicate streamNameLimit 0; counts = zeroCounts }
+
+unfoldable pub freshVolume : List ℕ → Bool → Volume
+freshVolume masks readOnly =
+    record {
+      «read_only» = readOnly;
+      «next_handle» = record { 0 = 1 };
+      files = rootFile masks ∷ replicate 127 zeroFile;
+      links = replicate linkSlots zeroLink;
+      streams = rootStream ∷ replicate 255 zeroStream;
+    }
+
+abbrev pub freshOpens : OpenTable
+freshOpens = record { rows = replicate openSlots zeroOpen }
+
+-- what format refuses; the masks alone decide where there are no tables
+unfoldable pub checkedMasks : List ℕ → Checked (Unit {0})
+checkedMasks masks = refuseIf (not (validMasks masks)) InvalidParameter
+
+unfoldable pub formatAnswer : Volume → OpenTable → List ℕ → Bool → Checked (Unit {0}) → Answer
+formatAnswer v t masks readOnly (refused s) = record { outcome = Refused s; granted = 0; volume = v; opens = t }
+formatAnswer v t masks readOnly (passed ok) =
+    record { outcome = Done; granted = 0; volume = freshVolume masks readOnly; opens = freshOpens }
+
+unfoldable pub format : Volume → OpenTable → List ℕ → Bool → Answer
+format v t masks readOnly =
+    formatAnswer v t masks readOnly (refuseIf (not (rightLengths v t)) FileCorruptError >> checkedMasks masks)

@@ -1,0 +1,1 @@
+// Format: fresh tables with the root alone. So far only its definition.

@@ -1,0 +1,71 @@
+-- Step 6: from a path to its file, and from a file and a name to a stream. The lowest matching slot wins.
+use Prim.Native.Nat.{ℕ}
+use mathlib.Core.Bool.{Bool, cond, _&&_}
+use mathlib.Core.List.{List, [], _∷_}
+use mathlib.Core.Option.{Option, none, some}
+use lib.Dec.{eqb}
+use Rattle.lists.specs.Lists.{first}
+use Rattle.records.specs.Slots.{root, isDirectory, fileAt, linkAt}
+use Rattle.records.specs.Namespace.{Namespace, BareStream, bareUsed}
+use Rattle.records.specs.Checked.{Checked, refused, passed, _>>=_}
+use Rattle.records.specs.declared.Status.the-variants.{ObjectPathNotFound}
+use Rattle.records.specs.declared.FileNo.{FileNo}
+use Rattle.records.specs.declared.LinkNo.{LinkNo}
+use Rattle.records.specs.declared.StreamNo.{StreamNo}
+use Rattle.records.specs.declared.Link.{Link}
+use Rattle.names.specs.Units.{equalUnits}
+use Rattle.names.specs.Names.{units}
+use Rattle.names.specs.Paths.{Path, Leaf}
+
+-- a link of the directory whose name matches. A path's names are never empty, so no free slot matches one
+unfoldable pub linkMatches : Bool → FileNo → List ℕ → Link → Bool
+linkMatches fold dir name l = eqb (l .parent .0) (dir .0) && equalUnits fold (units (l .name)) name
+
+unfoldable pub linkNumber : Option ℕ → Option LinkNo
+linkNumber none = none
+linkNumber (some n) = some (record { 0 = n })
+
+unfoldable pub findLink : Namespace → Bool → FileNo → List ℕ → Option LinkNo
+findLink ns fold dir name = linkNumber (first (linkMatches fold dir name) (ns .links))
+
+-- a stream of the file whose name matches
+unfoldable pub streamMatches : Bool → FileNo → List ℕ → BareStream → Bool
+streamMatches fold file name s = bareUsed s && eqb (s .file .0) (file .0) && equalUnits fold (units (s .name)) name
+
+unfoldable pub streamNumber : Option ℕ → Option StreamNo
+streamNumber none = none
+streamNumber (some n) = some (record { 0 = n })
+
+unfoldable pub findStream : Namespace → Bool → FileNo → List ℕ → Option StreamNo
+findStream ns fold file name = streamNumber (first (streamMatches fold file name) (ns .streams))
+
+-- a component before the last: the directory that it names
+unfoldable pub stepInto : Namespace → Option LinkNo → Checked FileNo
+stepInto ns none = refused ObjectPathNotFound
+stepInto ns (some l) =
+    let file = linkAt (ns .links) l .file in
+    cond (isDirectory (fileAt (ns .files) file .«file_type»)) (passed file) (refused ObjectPathNotFound)
+
+unfoldable pub descend : Namespace → Bool → FileNo → List (List ℕ) → Checked FileNo
+descend ns fold dir [] = passed dir
+descend ns fold dir (name ∷ names) = do
+  next ← stepInto ns (findLink ns fold dir name)
+  descend ns fold next names
+
+-- where a path leads: to a file, or to a directory that lacks its last name
+pub data Place : Type 0 where
+  found : FileNo → Place
+  missing : FileNo → List ℕ → List ℕ → Place
+
+unfoldable pub placeOf : Namespace → FileNo → Leaf → Option LinkNo → Place
+placeOf ns dir leaf (some l) = found (linkAt (ns .links) l .file)
+placeOf ns dir leaf none = missing dir (leaf .file) (leaf .stream)
+
+unfoldable pub locateLeaf : Namespace → Bool → FileNo → Option Leaf → Place
+locateLeaf ns fold dir none = found dir
+locateLeaf ns fold dir (some leaf) = placeOf ns dir leaf (findLink ns fold dir (leaf .file))
+
+unfoldable pub locate : Namespace → Bool → Path → Checked Place
+locate ns fold path = do
+  dir ← descend ns fold root (path .parents)
+  passed (locateLeaf ns fold dir (path .leaf))

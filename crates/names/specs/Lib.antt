@@ -1,0 +1,3 @@
+pub mod Units
+pub mod Names
+pub mod Paths

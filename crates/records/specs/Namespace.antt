@@ -1,0 +1,47 @@
+-- The tables without opens and share counts: what the model keeps of a volume, and all that steps 1 to 9 look at.
+use Prim.Native.Nat.{ℕ}
+use mathlib.Core.Bool.{Bool}
+use mathlib.Core.List.{List, map}
+use lib.ListN.{getD, replicate}
+use Rattle.records.specs.Sizes.{streamNameLimit}
+use Rattle.records.specs.Slots.{root, isUsed, zeroCounts}
+use Rattle.records.specs.declared.FileNo.{FileNo}
+use Rattle.records.specs.declared.StreamNo.{StreamNo}
+use Rattle.records.specs.declared.FileType.{FileType}
+use Rattle.records.specs.declared.FileType.the-variants.{Unused}
+use Rattle.records.specs.declared.File.{File}
+use Rattle.records.specs.declared.Link.{Link}
+use Rattle.records.specs.declared.ShareCounts.{ShareCounts}
+use Rattle.records.specs.declared.Stream.{Stream}
+use Rattle.records.specs.declared.Volume.{Volume}
+
+-- a stream without its share counts
+pub record BareStream : Type 0 where
+  pub file : FileNo
+  pub streamType : FileType
+  pub name : List ℕ
+
+abbrev pub zeroBare : BareStream
+zeroBare = record { file = root; streamType = Unused; name = replicate streamNameLimit 0 }
+
+unfoldable pub bareUsed : BareStream → Bool
+bareUsed s = isUsed (s .streamType)
+
+unfoldable pub bareAt : List BareStream → StreamNo → BareStream
+bareAt ss n = getD ss (n .0) zeroBare
+
+unfoldable pub bare : Stream → BareStream
+bare s = record { file = s .file; streamType = s .«stream_type»; name = s .name }
+
+unfoldable pub withCounts : BareStream → ShareCounts → Stream
+withCounts b c = record { file = b .file; «stream_type» = b .streamType; name = b .name; counts = c }
+
+pub record Namespace : Type 0 where
+  pub readOnly : Bool
+  pub files : List File
+  pub links : List Link
+  pub streams : List BareStream
+
+unfoldable pub namespace : Volume → Namespace
+namespace v =
+    record { readOnly = v .«read_only»; files = v .files; links = v .links; streams = map bare (v .streams) }

@@ -1,0 +1,89 @@
+-- Free and used slots, and what stands at a number: past a table's end, the record of a free slot.
+use Prim.Native.Nat.{ℕ}
+use mathlib.Core.Bool.{Bool, true, false, not}
+use mathlib.Core.List.{List}
+use lib.Dec.{eqb}
+use lib.ListN.{getD, replicate}
+use Rattle.records.specs.Sizes.{accounts, fileNameLimit, streamNameLimit}
+use Rattle.records.specs.declared.FileNo.{FileNo}
+use Rattle.records.specs.declared.LinkNo.{LinkNo}
+use Rattle.records.specs.declared.StreamNo.{StreamNo}
+use Rattle.records.specs.declared.FileType.{FileType}
+use Rattle.records.specs.declared.FileType.the-variants.{Unused, Data, Directory}
+use Rattle.records.specs.declared.File.{File}
+use Rattle.records.specs.declared.Link.{Link}
+use Rattle.records.specs.declared.ShareCounts.{ShareCounts}
+use Rattle.records.specs.declared.Stream.{Stream}
+use Rattle.records.specs.declared.Open.{Open}
+
+-- the root
+abbrev pub root : FileNo
+root = record { 0 = 0 }
+
+-- free slots, "all zero"
+abbrev pub zeroFile : File
+zeroFile = record { «file_type» = Unused; attributes = 0; masks = replicate accounts 0 }
+
+abbrev pub zeroLink : Link
+zeroLink = record { parent = root; name = replicate fileNameLimit 0; file = root }
+
+abbrev pub zeroCounts : ShareCounts
+zeroCounts =
+    record {
+      opens = 0;
+      readers = 0;
+      writers = 0;
+      deleters = 0;
+      «shared_read» = 0;
+      «shared_write» = 0;
+      «shared_delete» = 0;
+    }
+
+abbrev pub zeroStream : Stream
+zeroStream = record { file = root; «stream_type» = Unused; name = replicate streamNameLimit 0; counts = zeroCounts }
+
+abbrev pub zeroOpen : Open
+zeroOpen =
+    record { handle = record { 0 = 0 }; file = root; stream = record { 0 = 0 }; granted = 0; share = 0 }
+
+-- used slots: those with a kind, a link name or a handle
+unfoldable pub isUsed : FileType → Bool
+isUsed Unused = false
+isUsed Data = true
+isUsed Directory = true
+
+unfoldable pub isDirectory : FileType → Bool
+isDirectory Unused = false
+isDirectory Data = false
+isDirectory Directory = true
+
+unfoldable pub isData : FileType → Bool
+isData Unused = false
+isData Data = true
+isData Directory = false
+
+unfoldable pub fileUsed : File → Bool
+fileUsed f = isUsed (f .«file_type»)
+
+unfoldable pub linkUsed : Link → Bool
+linkUsed l = not (eqb (getD (l .name) 0 0) 0)
+
+unfoldable pub streamUsed : Stream → Bool
+streamUsed s = isUsed (s .«stream_type»)
+
+unfoldable pub openUsed : Open → Bool
+openUsed o = not (eqb (o .handle .0) 0)
+
+-- what stands at a number
+unfoldable pub fileAt : List File → FileNo → File
+fileAt fs n = getD fs (n .0) zeroFile
+
+unfoldable pub linkAt : List Link → LinkNo → Link
+linkAt ls n = getD ls (n .0) zeroLink
+
+unfoldable pub streamAt : List Stream → StreamNo → Stream
+streamAt ss n = getD ss (n .0) zeroStream
+
+-- the account's access mask on a file
+unfoldable pub maskOf : File → ℕ → ℕ
+maskOf f account = getD (f .masks) account 0

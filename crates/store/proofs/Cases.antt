@@ -1,0 +1,12 @@
+-- The worked cases hold, by evaluation of the definitions.
+use mathlib.Core.Path.{refl}
+use Rattle.store.specs.Evaluate.{storeRun, modelRun}
+use Rattle.store.specs.Cases.{seen, attributesOf, sevenCounts, observed, expected, Hold, workedCases, furtherCases}
+
+pub worked-cases : Hold workedCases
+unfolding storeRun modelRun seen attributesOf sevenCounts observed expected
+worked-cases = refl
+
+pub further-cases : Hold furtherCases
+unfolding storeRun modelRun seen attributesOf sevenCounts observed expected
+further-cases = refl

@@ -1,0 +1,35 @@
+-- Runs from a fresh volume, for evaluation: where a proof unfolds one of these two, every definition below it computes.
+use Prim.Native.Nat.{ℕ}
+use mathlib.Core.Bool.{Bool}
+use mathlib.Core.List.{List, []}
+use Rattle.bits.specs.Bits.{within, has, without}
+use Rattle.lists.specs.Lists.{all, allFrom, any, count, keep, pairs, firstFrom, first, firstAfter, writes, isEmpty, same, oneOf, padded}
+use Rattle.records.specs.Numbers.{statusNumber, actionNumber, outcomeNumbers}
+use Rattle.records.specs.Slots.{isUsed, isDirectory, isData, fileUsed, linkUsed, streamUsed, openUsed, fileAt, linkAt, streamAt, maskOf}
+use Rattle.records.specs.Namespace.{bareUsed, bareAt, bare, withCounts, namespace}
+use Rattle.records.specs.Checked.{_>>=_, _>>_, refuseIf}
+use Rattle.names.specs.Units.{upper, folded, equalUnits}
+use Rattle.names.specs.Names.{validUnit, validFileName, validStreamName, units, wellStored}
+use Rattle.names.specs.Paths.{startPart, split, components, endsIn, leafOf, validLeaf, checkedLeaf, parseComponents, parsePath}
+use Rattle.lookup.specs.Lookup.{linkMatches, linkNumber, findLink, streamMatches, streamNumber, findStream, stepInto, descend, placeOf, locateLeaf, locate}
+use Rattle.access.specs.Access.{effective, need, accessFrom, accessRule, checkedAccess}
+use Rattle.sharing.specs.Sharing.{accessBits, shareBit, anyKind, holds, shares, counted, conflict, conflicting, onStream, anyConflict, isHolder, isSharer, countsOfAll, countsOf, holders, sharers, shareCheck, changedBy, withOpen, withoutOpen}
+use Rattle.consistency.specs.Relations.{validMasks, linkTo, streamOf, unnamedOf, live, parentOf, climb, reaches}
+use Rattle.consistency.specs.Test.{freeFile, sameBool, usedFile, filesTest, freeLink, usedLink, linkNamesDiffer, linksOfFile, linksTest, freeStream, usedStream, streamNamesDiffer, streamsOfFile, streamsTest, freeOpen, usedOpen, handlesDiffer, opensAgree, opensTest, sameCounts, countsTest, consistent}
+use Rattle.format.specs.Format.{freshOpens, rightLengths, rootFile, freshVolume, checkedMasks, formatAnswer, format}
+use Rattle.store.specs.Request.{wantsDirectory, wantsFile, badParameters, badAccess, wantsBoth, writesVolume}
+use Rattle.store.specs.Prepare.{grant, grantedNew, newType, attributesNew, fileNew, prepareNew, wrongType, readSharingOf, streamOr, prepareDirectory, prepareOpen, hiddenOrSystem, gained, prepareReplace, prepareStream, prepareData, prepareFound, streamName, hasColon, prepareAt, prepare}
+use Rattle.store.specs.Complete.{changed, decided, shareOf, slotOr, freeFile as freeFile′, freeLink as freeLink′, freeStream as freeStream′, withAttributes, streamNew, placeFile, placeStreams, place, nextHandle, attributeChange, complete, decide}
+use Rattle.store.specs.Store.{refusal, anyOnFile, storeView, freshStream, changedVolume, recount, rowsWithOpenAt, rowsWithOpen, volumeWithOpen, openConcluded, openAnswer, hasHandle, volumeWithoutOpen, closeConcluded, closeAnswer, volumeMarked, setReadOnlyAnswer, audit}
+use Rattle.store.specs.Model.{Model, modelRefusal, modelFormatted, modelFormat, modelView, modelOpened, modelOpen, modelClose, modelSetReadOnly}
+use Rattle.store.specs.Calls.{Call, Tables, Run, answered, storeStep, modelStep, run}
+
+unfoldable pub storeRun : List ℕ → Bool → List Call → Run Tables
+unfolding within has without all allFrom any count keep pairs firstFrom first firstAfter writes isEmpty same oneOf padded statusNumber actionNumber outcomeNumbers isUsed isDirectory isData fileUsed linkUsed streamUsed openUsed fileAt linkAt streamAt maskOf bareUsed bareAt bare withCounts namespace _>>=_ _>>_ refuseIf upper folded equalUnits validUnit validFileName validStreamName units wellStored startPart split components endsIn leafOf validLeaf checkedLeaf parseComponents parsePath linkMatches linkNumber findLink streamMatches streamNumber findStream stepInto descend placeOf locateLeaf locate effective need accessFrom accessRule checkedAccess accessBits shareBit anyKind holds shares counted conflict conflicting onStream anyConflict isHolder isSharer countsOfAll countsOf holders sharers shareCheck changedBy withOpen withoutOpen validMasks linkTo streamOf unnamedOf live parentOf climb reaches freeFile sameBool usedFile filesTest freeLink usedLink linkNamesDiffer linksOfFile linksTest freeStream usedStream streamNamesDiffer streamsOfFile streamsTest freeOpen usedOpen handlesDiffer opensAgree opensTest sameCounts countsTest consistent rightLengths rootFile freshVolume checkedMasks formatAnswer format wantsDirectory wantsFile badParameters badAccess wantsBoth writesVolume grant grantedNew newType attributesNew fileNew prepareNew wrongType readSharingOf streamOr prepareDirectory prepareOpen hiddenOrSystem gained prepareReplace prepareStream prepareData prepareFound streamName hasColon prepareAt prepare changed decided shareOf slotOr freeFile′ freeLink′ freeStream′ withAttributes streamNew placeFile placeStreams place nextHandle attributeChange complete decide refusal anyOnFile storeView freshStream changedVolume recount rowsWithOpenAt rowsWithOpen volumeWithOpen openConcluded openAnswer hasHandle volumeWithoutOpen closeConcluded closeAnswer volumeMarked setReadOnlyAnswer audit modelRefusal modelFormatted modelFormat modelView modelOpened modelOpen modelClose modelSetReadOnly answered storeStep modelStep run
+storeRun masks readOnly calls =
+    run storeStep (record { volume = freshVolume masks readOnly; opens = freshOpens }) calls
+
+unfoldable pub modelRun : List ℕ → Bool → List Call → Run Model
+unfolding storeRun
+modelRun masks readOnly calls =
+    run modelStep (record { names = namespace (freshVolume masks readOnly); count = 0; entries = [] }) calls

@@ -1,0 +1,10 @@
+-- In the order of document 01.
+pub mod Request
+pub mod Prepare
+pub mod Complete
+pub mod Store
+pub mod Model
+pub mod Calls
+pub mod Evaluate
+pub mod Cases
+pub mod Sequences
