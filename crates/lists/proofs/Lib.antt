@@ -1,0 +1,9 @@
+pub mod Tests
+pub mod All
+pub mod Keep
+pub mod Pairs
+pub mod Find
+pub mod Set
+pub mod Permutations
+pub mod Pigeonhole
+pub mod Writes
