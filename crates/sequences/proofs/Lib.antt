@@ -1,1 +1,5 @@
 pub mod Facts
+pub mod Located
+pub mod Granted
+pub mod Requested
+pub mod Prepared
