@@ -1,6 +1,6 @@
 -- A pending open fits the consistent names that it was prepared in.
 use Prim.Native.Nat.{ℕ, _≤_}
-use mathlib.Core.Path.{_≡_, refl, sym, _∙_, ap, subst}
+use mathlib.Core.Path.{_≡_, refl, sym, _∙_, ap, subst, subst₂}
 use mathlib.Core.Bool.{Bool, true, false, cond, not, _&&_, _||_, false≢true, true≢false}
 use mathlib.Core.List.{List, [], _∷_}
 use mathlib.Core.Option.{Option, none, some, Option·some-injective}
@@ -12,15 +12,17 @@ use native.Mathlib.Omega.{arith}
 use borrow.Author.Tests.{eqb-true}
 use Rattle.bits.specs.Bits.{within, has, without}
 use Rattle.bits.proofs.Sets.{within-or-l, within-le}
-use Rattle.lists.specs.Lists.{any, first, isEmpty, oneOf}
+use Rattle.lists.specs.Lists.{all, any, first, isEmpty, oneOf}
 use Rattle.lists.proofs.Tests.{none≢some, and-left, and-right, tested}
 use Rattle.lists.proofs.Find.{Found, first-found, first-none}
+use Rattle.records.specs.Sizes.{streamNameLimit}
 use Rattle.records.specs.Constants.{supersede, openOnly, create, openIf, overwrite, directory, archive, temporary, writeData, addFile, addSubdirectory, allAccess}
 use Rattle.records.specs.Slots.{isUsed, isData, isDirectory, fileUsed, fileAt, maskOf}
 use Rattle.records.specs.Namespace.{Namespace, BareStream, zeroBare, bareUsed, bareAt}
 use Rattle.records.specs.Checked.{Checked, refused, passed, _>>=_, _>>_, refuseIf}
 use Rattle.records.specs.declared.Status.{Status}
 use Rattle.records.specs.declared.Status.the-variants.{FileCorruptError, InvalidParameter, AccessDenied, MediaWriteProtected, ObjectNameNotFound, ObjectNameCollision}
+use Rattle.records.specs.declared.CreateAction.{CreateAction}
 use Rattle.records.specs.declared.FileType.{FileType}
 use Rattle.records.specs.declared.FileType.the-variants.{Unused, Data, Directory}
 use Rattle.records.specs.declared.FileNo.{FileNo}
@@ -32,10 +34,10 @@ use Rattle.names.specs.Units.{equalUnits}
 use Rattle.names.specs.Names.{units, validStreamName}
 use Rattle.names.specs.Paths.{Leaf, Path, parsePath}
 use Rattle.names.proofs.Parsed.{LeafFits, parsed-leaf}
-use Rattle.lookup.specs.Lookup.{streamMatches, streamNumber, findStream, Place, found, missing, locate}
+use Rattle.lookup.specs.Lookup.{linkMatches, streamMatches, streamNumber, findStream, Place, found, missing, locate}
 use Rattle.store.specs.Request.{wantsDirectory, wantsFile, badParameters, badAccess, wantsBoth, writesVolume}
 use Rattle.store.specs.Prepare
-use Rattle.store.specs.Prepare.{Existing, newStream, newFile, Pending, existing, creating, grant, grantedNew, newType, attributesNew, fileNew, prepareNew, wrongType, streamOr, prepareDirectory, prepareOpen, hiddenOrSystem, gained, prepareReplace, prepareStream, prepareData, prepareFound, prepareAt, streamName, hasColon, readSharingOf, prepare}
+use Rattle.store.specs.Prepare.{Existing, newStream, newFile, Pending, existing, creating, opening, grant, grantedNew, newType, attributesNew, fileNew, prepareNew, wrongType, streamOr, prepareDirectory, prepareOpen, gained, replacement, prepareReplace, prepareStream, prepareData, prepareFound, prepareAt, streamName, hasColon, readSharingOf, prepare}
 use Rattle.sequences.proofs.Facts.{NamesConsistent, AttributesFit, StreamFits, FileFits, Grantable, ExistingFits, PendingFits}
 use Rattle.sequences.proofs.Located.{PlaceFits, located, directory-used}
 use Rattle.sequences.proofs.Granted.{granted-fits}
@@ -96,25 +98,179 @@ missing-stream ns fold f name h = go (first (streamMatches fold f name) (ns .str
     go none e k = first-none (streamMatches fold f name) zeroBare (ns .streams) e
     go (some n) e k = absurd (none≢some (sym k))
 
--- steps 10 and 11: an open of a stream that is there
+-- steps 10 and 11 on a used file
 module _ (ns : Namespace) (r : Request) (f : FileNo) (ok : NamesConsistent ns) (fits : RequestFits r) (used : fileUsed (fileAt (ns .files) f) ≡ true) where
+  -- an open of a stream that is there
+  opening-fits : (s : StreamNo) (sharing : Prepare.ReadSharing) (action : CreateAction) (attributes : Option ℕ) (access g : ℕ)
+      → (bareUsed (bareAt (ns .streams) s) ≡ true) × (bareAt (ns .streams) s .file ≡ f) → access ≢ 0 → grant ns r f access ≡ passed g
+      → ((a : ℕ) → attributes ≡ some a → AttributesFit ns f a)
+      → {p : Pending} → passed (opening r f s sharing action attributes g) ≡ passed p → PendingFits ns p
+  unfolding opening
+  opening-fits s sharing action attributes access g q nz e change h =
+      as-passed ns h
+      (record {
+        grantable = grantable ns r f access g ok fits used nz e;
+        streamUsed = q .0;
+        streamFile = q .1;
+        attributes = change;
+      })
+
   directory-fits : (p : Pending) → prepareDirectory ns r f ≡ passed p → PendingFits ns p
-  unfolding prepareDirectory
-  directory-fits p h = ?
+  unfolding prepareDirectory streamOr
+  directory-fits p h =
+      let t = test-passed _ _ _ h in
+      let g = bind-passed _ _ (t .1) in
+      let s = bind-passed _ _ (g .2) in
+      opening-fits (s .0) _ _ none (r .access) (g .0) (found-stream ns false f [] (s .0) (stream-or _ (s .1)))
+      (fits .accessNonzero) (g .1) (λ a e. absurd (none≢some e)) (s .2)
+    where
+      stream-or : (o : Option StreamNo) {s : StreamNo} → streamOr FileCorruptError o ≡ passed s → o ≡ some s
+      stream-or none e = absurd (refused≢passed e)
+      stream-or (some t) e = ap some (passed-same e)
 
   open-fits : (s : StreamNo) → (bareUsed (bareAt (ns .streams) s) ≡ true) × (bareAt (ns .streams) s .file ≡ f)
       → (p : Pending) → prepareOpen ns r f s ≡ passed p → PendingFits ns p
   unfolding prepareOpen
-  open-fits s q p h = ?
+  open-fits s q p h =
+      let g = bind-passed _ _ h in
+      opening-fits s _ _ none (r .access) (g .0) q (fits .accessNonzero) (g .1) (λ a e. absurd (none≢some e)) (g .2)
 
-  replace-fits : (s : StreamNo) → (bareUsed (bareAt (ns .streams) s) ≡ true) × (bareAt (ns .streams) s .file ≡ f)
-      → isDirectory (fileAt (ns .files) f .«file_type») ≡ false
-      → (unnamed : Bool) (p : Pending) → prepareReplace ns r f s unnamed ≡ passed p → PendingFits ns p
-  unfolding prepareReplace
-  replace-fits s q d unnamed p h = ?
+  module _ (d : isDirectory (fileAt (ns .files) f .«file_type») ≡ false) where
+    data-attributes : (a : ℕ) → Attributes false a → AttributesFit ns f a
+    unfolding fileUsed
+    data-attributes a h =
+        record {
+          dataFile = used-data (fileAt (ns .files) f .«file_type») used d;
+          attributesWithin = h .inRange;
+          noDirectoryBit = h .directoryBit;
+        }
 
-  stream-fits : (name : List ℕ) → isDirectory (fileAt (ns .files) f .«file_type») ≡ false
-      → validStreamName 32 name ≡ true → any (streamMatches (r .fold) f name) (ns .streams) ≡ false
-      → (p : Pending) → prepareStream ns r f name ≡ passed p → PendingFits ns p
-  unfolding prepareStream
-  stream-fits name d v m p h = ?
+    replacement-fits : (unnamed : Bool) (a : ℕ) → replacement r unnamed ≡ some a → AttributesFit ns f a
+    unfolding replacement
+    replacement-fits true a e =
+        subst (λ (x : ℕ). AttributesFit ns f x) (Option·some-injective _ a e) (data-attributes _ (replaced r fits))
+    replacement-fits false a e = absurd (none≢some e)
+
+    replace-fits : (s : StreamNo) → (bareUsed (bareAt (ns .streams) s) ≡ true) × (bareAt (ns .streams) s .file ≡ f)
+        → (unnamed : Bool) (p : Pending) → prepareReplace ns r f s unnamed ≡ passed p → PendingFits ns p
+    unfolding prepareReplace
+    replace-fits s q unnamed p h =
+        let t = test-passed _ _ _ h in
+        let g = bind-passed _ _ (t .1) in
+        opening-fits s _ _ (replacement r unnamed) (bitOr (r .access) (gained r unnamed)) (g .0) q
+        (gains (r .access) (gained r unnamed) (fits .accessNonzero)) (g .1) (replacement-fits unnamed) (g .2)
+
+    stream-fits : (name : List ℕ) → validStreamName streamNameLimit name ≡ true
+        → any (streamMatches (r .fold) f name) (ns .streams) ≡ false
+        → (p : Pending) → prepareStream ns r f name ≡ passed p → PendingFits ns p
+    unfolding prepareStream
+    stream-fits name v m p h =
+        let t = test-passed _ _ _ h in
+        let g = bind-passed _ _ (t .1) in
+        let w = test-passed _ _ _ (g .2) in
+        let old : Attributes false (fileAt (ns .files) f .attributes) =
+        record { inRange = ok .files .attributesWithin f used; directoryBit = ok .files .directoryBit f used ∙ d } in
+        as-passed ns (w .1) (
+          record {
+            attributes = data-attributes _ (archived _ old);
+            nameValid = v;
+            fold = r .fold;
+            nameNew = m;
+          },
+          grantable ns r f (bitOr (r .access) writeData) (g .0) ok fits used (gains (r .access) writeData (fits .accessNonzero)) (g .1),
+        )
+
+    data-fits : (name : List ℕ) → validStreamName streamNameLimit name ≡ true
+        → (o : Option StreamNo) → findStream ns (r .fold) f name ≡ o
+        → (p : Pending) → prepareData ns r f name o ≡ passed p → PendingFits ns p
+    unfolding prepareData
+    data-fits name v none e p h = stream-fits name v (missing-stream ns (r .fold) f name e) p h
+    data-fits name v (some s) e p h =
+        let t = test-passed _ _ _ h in
+        go (oneOf (r .disposition) (openOnly ∷ openIf ∷ [])) (t .1)
+      where
+        go : (b : Bool) → cond b (prepareOpen ns r f s) (prepareReplace ns r f s (isEmpty name)) ≡ passed p → PendingFits ns p
+        go true k = open-fits s (found-stream ns (r .fold) f name s e) p k
+        go false k = replace-fits s (found-stream ns (r .fold) f name s e) (isEmpty name) p k
+
+  found-fits : (stream : List ℕ) (colon : Bool) → validStreamName streamNameLimit stream ≡ true
+      → (p : Pending) → prepareFound ns r f stream colon ≡ passed p → PendingFits ns p
+  unfolding prepareFound
+  found-fits stream colon v p h =
+      let t = then-passed _ _ h in
+      go (isDirectory (fileAt (ns .files) f .«file_type»)) refl (t .2)
+    where
+      go : (b : Bool) → isDirectory (fileAt (ns .files) f .«file_type») ≡ b
+          → cond b (prepareDirectory ns r f) (prepareData ns r f stream (findStream ns (r .fold) f stream)) ≡ passed p → PendingFits ns p
+      go true e k = directory-fits p k
+      go false e k = data-fits e stream v (findStream ns (r .fold) f stream) refl p k
+
+-- steps 7 and 9: a new file
+new-fits : (ns : Namespace) (r : Request) (dir : FileNo) (l : Leaf) → NamesConsistent ns → RequestFits r
+    → LeafFits (wantsDirectory r) l → isDirectory (fileAt (ns .files) dir .«file_type») ≡ true
+    → any (linkMatches (r .fold) dir (l .file)) (ns .links) ≡ false
+    → (p : Pending) → prepareNew ns r dir (l .file) (l .stream) ≡ passed p → PendingFits ns p
+unfolding prepareNew fileNew fileUsed newType isUsed isDirectory
+new-fits ns r dir l ok fits leaf i m p h =
+    let parent = fileAt (ns .files) dir in
+    let a = test-passed _ _ _ h in
+    let b = test-passed _ _ _ (a .1) in
+    let c = test-passed _ _ _ (b .1) in
+    let d = test-passed _ _ _ (c .1) in
+    let attributes = attributes-new r parent in
+    let g = granted-new r fits in
+    as-passed ns (d .1) (
+      record {
+        parent = i;
+        nameValid = leaf .fileValid;
+        fold = r .fold;
+        nameNew = m;
+        streamValid = leaf .streamValid;
+        used = type-used (wantsDirectory r);
+        attributesWithin = attributes .inRange;
+        directoryBit = attributes .directoryBit;
+        masksValid = ok .files .masksWithin dir (directory-used (parent .«file_type») i);
+        directoryUnnamed = λ e. leaf .unnamed (no-colon (wantsDirectory r) (leaf .noColon) e);
+      },
+      record { nonzero = g .0; grantedWithin = g .1; shareAtMost = fits .shareAtMost },
+    )
+  where
+    type-used : (b : Bool) → isUsed (cond b Directory Data) ≡ true
+    type-used true = refl
+    type-used false = refl
+
+    no-colon : (b : Bool) → (b && l .colon) ≡ false → isDirectory (cond b Directory Data) ≡ true → l .colon ≡ false
+    no-colon true e d = e
+    no-colon false e d = absurd (false≢true d)
+
+-- the stream name of a parsed path is valid; the root's is empty
+stream-valid : (wd : Bool) (leaf : Option Leaf) → ((l : Leaf) → leaf ≡ some l → LeafFits wd l)
+    → validStreamName streamNameLimit (streamName leaf) ≡ true
+unfolding streamName validStreamName all
+stream-valid wd none fits = refl
+stream-valid wd (some l) fits = fits l refl .streamValid
+
+pub prepared : (ns : Namespace) (r : Request) (units : List ℕ) (p : Pending) → NamesConsistent ns
+    → prepare ns r units ≡ passed p → PendingFits ns p
+unfolding prepare prepareAt
+prepared ns r units p ok h =
+    let a = test-passed _ _ _ h in
+    let b = test-passed _ _ _ (a .1) in
+    let c = test-passed _ _ _ (b .1) in
+    let path = bind-passed _ _ (c .1) in
+    let d = test-passed _ _ _ (path .2) in
+    let place = bind-passed _ _ (d .1) in
+    let leaf = parsed-leaf (wantsDirectory r) (wantsFile r) units (path .0) (path .1) in
+    at-place (path .0 .leaf) leaf (place .0)
+    (located ns (r .fold) (wantsDirectory r) (path .0) (place .0) ok leaf (place .1))
+    (requested r (a .0) (b .0)) (place .2)
+  where
+    at-place : (leaf : Option Leaf) → ((l : Leaf) → leaf ≡ some l → LeafFits (wantsDirectory r) l) → (q : Place)
+        → PlaceFits ns (r .fold) leaf q → RequestFits r → prepareAt ns r leaf q ≡ passed p → PendingFits ns p
+    at-place leaf fits (found f) place req k =
+        found-fits ns r f ok req place (streamName leaf) (hasColon leaf) (stream-valid (wantsDirectory r) leaf fits) p k
+    at-place leaf fits (missing dir name stream) place req k =
+        let l = place .1 .0 in
+        new-fits ns r dir l ok req (fits l (place .1 .1)) (place .0)
+        (subst (λ (n : List ℕ). any (linkMatches (r .fold) dir n) (ns .links) ≡ false) (place .1 .2) (place .2)) p
+        (subst₂ (λ (n s : List ℕ). prepareNew ns r dir n s ≡ passed p) (place .1 .2) (place .1 .3) k)
