@@ -1,0 +1,3 @@
+-- Laws about the records that belong to no single function.
+pub mod Arrays
+pub mod Lengths
