@@ -9,3 +9,4 @@ pub mod Pigeonhole
 pub mod Writes
 pub mod Default
 pub mod First
+pub mod Counting
