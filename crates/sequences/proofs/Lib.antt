@@ -3,3 +3,4 @@ pub mod Located
 pub mod Granted
 pub mod Requested
 pub mod Prepared
+pub mod Views
