@@ -1,0 +1,3 @@
+pub mod Conjunctions
+pub mod Slots
+pub mod Files
