@@ -66,12 +66,12 @@ files-sound fs h =
     let (n, r, a) = parts3 (eqb (length fs) fileSlots) (isDirectory (fileAt fs root .«file_type»)) (all slotTest fs) h in
     let used : (f : FileNo) → fileUsed (fileAt fs f) ≡ true → UsedFile (fileAt fs f) =
     λ f u.
-    used-file (fileAt fs f) (slot-used fileUsed usedFile freeFile zeroFile zero-file-free zero-file fs a (f .0) u) in
+    used-file (fileAt fs f) (slot-used fileUsed zeroFile zero-file-free usedFile freeFile zero-file fs a (f .0) u) in
     record {
       size = eqb-true (length fs) fileSlots n;
       freeZero =
           λ f u.
-          free-file (fileAt fs f) u (slot-free fileUsed usedFile freeFile zeroFile zero-file-free zero-file fs a (f .0) u);
+          free-file (fileAt fs f) u (slot-free fileUsed zeroFile zero-file-free usedFile freeFile zero-file fs a (f .0) u);
       rootDirectory = r;
       attributesWithin = λ f u. used f u .attributesWithin;
       directoryBit = λ f u. used f u .directoryBit;
@@ -82,7 +82,7 @@ pub files-complete : (fs : List File) → FilesConsistent fs → filesTest fs �
 unfolding filesTest fileAt
 files-complete fs c =
     whole3 (eq-eqb (length fs) fileSlots (c .size)) (c .rootDirectory)
-    (slots-of fileUsed usedFile freeFile zeroFile zero-file-free zero-file fs
+    (slots-of fileUsed zeroFile zero-file-free usedFile freeFile zero-file fs
     (λ i u.
     let f : FileNo = record { 0 = i } in
     used-file-of (fileAt fs f)

@@ -1,3 +1,5 @@
 pub mod Conjunctions
 pub mod Slots
+pub mod Numbered
 pub mod Files
+pub mod Streams

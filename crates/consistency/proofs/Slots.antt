@@ -44,6 +44,17 @@ directory-used Unused h = h
 directory-used Data h = refl
 directory-used Directory h = refl
 
+-- two types that are used are equal where both or neither is a directory
+pub same-type : (t u : FileType) → isUsed t ≡ true → isUsed u ≡ true → isDirectory t ≡ isDirectory u → t ≡ u
+unfolding isUsed isDirectory
+same-type Unused u h k e = absurd (false≢true h)
+same-type Data Unused h k e = absurd (false≢true k)
+same-type Data Data h k e = refl
+same-type Data Directory h k e = absurd (false≢true e)
+same-type Directory Unused h k e = absurd (false≢true k)
+same-type Directory Data h k e = absurd (true≢false e)
+same-type Directory Directory h k e = refl
+
 -- two tests that agree
 pub same-bool : (a b : Bool) → sameBool a b ≡ true → a ≡ b
 unfolding sameBool
@@ -68,7 +79,7 @@ module _ (u a b : Bool) where
       go false f g = g refl
 
 -- a table whose default is free: what its test says of every number
-module _ {A : Type 0} (used good free : A → Bool) (d : A) (df : used d ≡ false) where
+module _ {A : Type 0} (used : A → Bool) (d : A) (df : used d ≡ false) where
   -- a used slot is below the length
   pub used-below : (xs : List A) (i : ℕ) → used (getD xs i d) ≡ true → i < length xs
   used-below xs i u = elim (decLt i (length xs)) [ yes b ↦ b | no n ↦ absurd (not-both u (ap used (List·getD-eq-default xs d {n = i} (past n)) ∙ df)) ]
@@ -76,7 +87,7 @@ module _ {A : Type 0} (used good free : A → Bool) (d : A) (df : used d ≡ fal
       past : (i < length xs → ⊥) → length xs ≤ i
       past n = omega arith
 
-  module _ (dz : free d ≡ true) (xs : List A) where
+  module _ (good free : A → Bool) (dz : free d ≡ true) (xs : List A) where
     slot : all (λ x. cond (used x) (good x) (free x)) xs ≡ true → (i : ℕ)
         → cond (used (getD xs i d)) (good (getD xs i d)) (free (getD xs i d)) ≡ true
     slot h i = all-slots (λ x. cond (used x) (good x) (free x)) d (cond-false (good d) (free d) df ∙ dz) xs h i
