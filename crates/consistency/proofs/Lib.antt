@@ -2,6 +2,8 @@ pub mod Conjunctions
 pub mod Slots
 pub mod Numbered
 pub mod Files
+pub mod Parents
+pub mod Links
 pub mod Streams
 pub mod Opens
 pub mod Counts

@@ -5,15 +5,16 @@ use mathlib.Core.Bool.{Bool, true, false, not, _&&_, _||_}
 use mathlib.Core.List.{List}
 use mathlib.Core.Logic.{_≢_, ⊎-elim}
 use native.Mathlib.Nat.{zero-add}
+use lib.Dec.{eqb}
 use lib.ListN.{length, getD}
-use borrow.Author.Tests.{not-true}
+use borrow.Author.Tests.{eqb-true, eq-eqb, not-true}
 use Rattle.lists.specs.Lists.{allFrom, same}
 use Rattle.lists.proofs.All.{all-from-at, all-from-of}
 use Rattle.lists.proofs.Tests.{tested, not-both, same-is, same-self, guarded, guard}
 use Rattle.records.specs.Slots.{isUsed, isDirectory, zeroFile, fileUsed, fileAt}
 use Rattle.records.specs.declared.FileNo.{FileNo}
 use Rattle.records.specs.declared.File.{File}
-use Rattle.consistency.proofs.Slots.{used-below, directory-used}
+use Rattle.consistency.proofs.Slots.{same-file, used-below, directory-used}
 
 module _ {A : Type 0} (p : ℕ → A → Bool) (d : A) (xs : List A) where
   pub numbered-at : allFrom p 0 xs ≡ true → (i : ℕ) → i < length xs → p i (getD xs i d) ≡ true
@@ -57,8 +58,19 @@ excludes true b h = ap not (h refl)
 excludes false b h = refl
 
 -- lists of numbers that differ
-pub not-same : (xs ys : List ℕ) → same xs ys ≡ false → xs ≢ ys
+not-same : (xs ys : List ℕ) → same xs ys ≡ false → xs ≢ ys
 not-same xs ys h e = not-both (ap (same xs) (sym e) ∙ same-self xs) h
 
-pub not-same-of : (xs ys : List ℕ) → xs ≢ ys → same xs ys ≡ false
+not-same-of : (xs ys : List ℕ) → xs ≢ ys → same xs ys ≡ false
 not-same-of xs ys n = ⊎-elim (λ e. absurd (n (same-is xs ys e))) (λ e. e) (tested (same xs ys))
+
+-- two names in one directory, or of one file, differ
+module _ (f g : FileNo) (xs ys : List ℕ) where
+  pub names-differ : not (eqb (f .0) (g .0) && same xs ys) ≡ true → f ≡ g → xs ≢ ys
+  names-differ h e =
+      not-same xs ys (excluded (eqb (f .0) (g .0)) (same xs ys) h (eq-eqb (f .0) (g .0) (λ i. e i .0)))
+
+  pub names-differ-of : (f ≡ g → xs ≢ ys) → not (eqb (f .0) (g .0) && same xs ys) ≡ true
+  names-differ-of h =
+      excludes (eqb (f .0) (g .0)) (same xs ys)
+      (λ e. not-same-of xs ys (h (same-file f g (eqb-true (f .0) (g .0) e))))

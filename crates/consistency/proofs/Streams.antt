@@ -23,7 +23,7 @@ use Rattle.consistency.specs.Test.{sameBool, freeStream, usedStream, str
 use Rattle.consistency.specs.Consistent.{StreamsConsistent}
 use Rattle.consistency.proofs.Conjunctions.{parts2, parts4, whole4}
 use Rattle.consistency.proofs.Slots.{same-file, unused, same-type, same-bool, same-bool-of, used-below, slot-used, slot-free, slots-of}
-use Rattle.consistency.proofs.Numbered.{directory-file, files-at, files-of, excluded, excludes, not-same, not-same-of}
+use Rattle.consistency.proofs.Numbered.{directory-file, files-at, files-of, names-differ, names-differ-of}
 
 -- a free slot passes its test exactly when it is all zero
 free-stream : (s : BareStream) → bareUsed s ≡ false → freeStream s ≡ true → s ≡ zeroBare
@@ -72,22 +72,6 @@ used-stream-of : (fs : List File) (s : BareStream) → UsedStream fs s → usedS
 unfolding usedStream
 used-stream-of fs s u =
     whole4 (u .namesStored) (u .namesValid) (u .namesUsedFile) (same-bool-of (ap isDirectory (u .typesAgree)))
-
--- names differ
-stream-names : (s t : BareStream) → streamNamesDiffer s t ≡ true → s .file ≡ t .file → units (s .name) ≢ units (t .name)
-unfolding streamNamesDiffer
-stream-names s t h e =
-    not-same (units (s .name)) (units (t .name))
-    (excluded (eqb (s .file .0) (t .file .0)) (same (units (s .name)) (units (t .name))) h
-    (eq-eqb (s .file .0) (t .file .0) (ap (λ (f : FileNo). f .0) e)))
-
-stream-names-of : (s t : BareStream) → (s .file ≡ t .file → units (s .name) ≢ units (t .name)) → streamNamesDiffer s t ≡ true
-unfolding streamNamesDiffer
-stream-names-of s t h =
-    excludes (eqb (s .file .0) (t .file .0)) (same (units (s .name)) (units (t .name)))
-    (λ e.
-    not-same-of (units (s .name)) (units (t .name))
-    (h (same-file (s .file) (t .file) (eqb-true (s .file .0) (t .file .0) e))))
 
 -- the streams of a file are counted among the used slots as among all
 streams-kept : (f : FileNo) (ss : List BareStream) → count (streamOf f) (keep bareUsed ss) ≡ count (streamOf f) ss
@@ -139,7 +123,7 @@ slotTest fs s = cond (bareUsed s) (usedStream fs s) (freeStream s)
 
 module _ (fs : List File) (ss : List BareStream) where
   pub streams-sound : streamsTest fs ss ≡ true → StreamsConsistent fs ss
-  unfolding streamsTest bareAt streamsOfFile
+  unfolding streamsTest bareAt streamsOfFile streamNamesDiffer
   streams-sound h =
       let (n, a, p, o) =
       parts4 (eqb (length ss) streamSlots) (all (slotTest fs) ss) (pairs streamNamesDiffer (keep bareUsed ss))
@@ -164,12 +148,12 @@ module _ (fs : List File) (ss : List BareStream) where
         directoriesHaveOne = λ f d. file f (directory-file fs f d) .directoriesHaveOne d;
         namesDiffer =
             λ s t b u w.
-            stream-names (bareAt ss s) (bareAt ss t)
+            names-differ (bareAt ss s .file) (bareAt ss t .file) (units (bareAt ss s .name)) (units (bareAt ss t .name))
             (pairs-keep-at bareUsed streamNamesDiffer zeroBare ss p (s .0) (t .0) b (stream-in ss t w) u w);
       }
 
   pub streams-complete : StreamsConsistent fs ss → streamsTest fs ss ≡ true
-  unfolding streamsTest bareAt streamsOfFile
+  unfolding streamsTest bareAt streamsOfFile streamNamesDiffer
   streams-complete c =
       whole4 (eq-eqb (length ss) streamSlots (c .size))
       (slots-of bareUsed zeroBare zero-stream-free (usedStream fs) freeStream zero-stream ss
@@ -187,7 +171,7 @@ module _ (fs : List File) (ss : List BareStream) where
       (λ i j b l u w.
       let s : StreamNo = record { 0 = i } in
       let t : StreamNo = record { 0 = j } in
-      stream-names-of (bareAt ss s) (bareAt ss t) (c .namesDiffer s t b u w)))
+      names-differ-of (bareAt ss s .file) (bareAt ss t .file) (units (bareAt ss s .name)) (units (bareAt ss t .name)) (c .namesDiffer s t b u w)))
       (files-of (streamsOf (keep bareUsed ss)) fs
       (λ f u.
       file-streams-of ss f (fileAt fs f)
