@@ -7,3 +7,5 @@ pub mod Links
 pub mod Streams
 pub mod Opens
 pub mod Counts
+pub mod Equivalence
+pub mod Derived
