@@ -1,1 +1,4 @@
+-- Laws about the records that belong to no single function.
 pub mod Checked
+pub mod Arrays
+pub mod Lengths
