@@ -2,6 +2,7 @@
 // File, link and stream numbers and handles are types of their own, so that none can serve as another.
 pub mod constants;
 pub mod slots;
+pub mod tables;
 
 // A slot of the files table. File 0 is the root.
 pub struct FileNo(pub u16);
