@@ -2,3 +2,4 @@
 pub mod Checked
 pub mod Arrays
 pub mod Lengths
+pub mod Searches
