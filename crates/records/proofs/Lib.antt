@@ -2,4 +2,5 @@
 pub mod Checked
 pub mod Arrays
 pub mod Lengths
+pub mod Elements
 pub mod Searches
