@@ -5,14 +5,14 @@ use mathlib.Core.Path.{_≡_, refl, sym, _∙_, ap, ap₂, subst}
 use mathlib.Core.Bool.{Bool, true, false, not}
 use mathlib.Core.List.{List, [], _∷_}
 use lib.Dec.{eqb, ltb}
-use lib.ListN.{length}
+use lib.ListN.{length, length-map}
 use Rattle.lists.specs.Lists.{any, count, keep, Permutation}
 use Rattle.lists.proofs.Counting.{count-fewer}
 use Rattle.lists.proofs.Keep.{length-keep}
 use Rattle.lists.proofs.Permutations.{perm-any, perm-length}
 use Rattle.records.specs.Sizes.{openSlots, lastHandle}
 use Rattle.records.specs.Slots.{openUsed, streamAt}
-use Rattle.records.specs.Namespace.{Namespace, namespace}
+use Rattle.records.specs.Namespace.{Namespace, namespace, bare}
 use Rattle.records.specs.Checked.{Checked, refused, passed, _>>=_, _>>_, refuseIf}
 use Rattle.records.specs.declared.Status.the-variants.{SharingViolation, TooManyOpenedFiles, InsufficientResources}
 use Rattle.records.specs.declared.CreateAction.the-variants.{Created}
@@ -25,6 +25,7 @@ use Rattle.sharing.proofs.Counts.{counts-perm}
 use Rattle.sharing.proofs.Check.{share-check-right}
 use Rattle.consistency.specs.Relations.{live}
 use Rattle.consistency.specs.Consistent.{Consistent, CountsTrue}
+use Rattle.consistency.proofs.Derived.{stream-below}
 use Rattle.store.specs.Prepare.{Existing, Pending, existing, creating}
 use Rattle.store.specs.Complete.{View, Placed, Decision, decided, shareOf, place, nextHandle, attributeChange, complete}
 use Rattle.store.specs.Store.{anyOnFile, storeView}
@@ -96,7 +97,7 @@ completed-alike view view′ ns (creating c granted share) alike =
 -- related tables and model answer alike what a fitting pending open asks
 module _ {t : Tables} {m : Model} (related : Related t m) where
   pub views-alike : (p : Pending) → PendingFits (namespace (t .volume)) p → Alike (storeView (t .volume) (t .opens)) (modelView m) p
-  unfolding storeView modelView anyOnFile
+  unfolding storeView modelView anyOnFile namespace
   views-alike p fits =
       record {
         conflicts = λ e q. conflicts-agree related (e .stream) (below e (fits-existing q)) (e .granted) (e .share);
@@ -109,4 +110,7 @@ module _ {t : Tables} {m : Model} (related : Related t m) where
       fits-existing q = subst (λ (x : Pending). PendingFits (namespace (t .volume)) x) q fits
 
       below : (e : Existing) → ExistingFits (namespace (t .volume)) e → e .stream .0 < length (t .volume .streams)
-      below e f = ?
+      below e f =
+          subst (λ (n : ℕ). e .stream .0 < n)
+          (sym (related .consistentTables .streams .size) ∙ length-map (t .volume .streams) bare)
+          (stream-below (related .consistentTables .streams) (e .stream) (f .streamUsed))
