@@ -4,3 +4,5 @@ pub mod Granted
 pub mod Requested
 pub mod Prepared
 pub mod Views
+pub mod Stub
+pub mod Completed
