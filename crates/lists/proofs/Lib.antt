@@ -7,3 +7,4 @@ pub mod Set
 pub mod Permutations
 pub mod Pigeonhole
 pub mod Writes
+pub mod Slots
