@@ -2,3 +2,8 @@
 pub mod Types
 pub mod Files
 pub mod Attributes
+pub mod Free
+pub mod Relations
+pub mod Streams
+pub mod NewStream
+pub mod Stream
