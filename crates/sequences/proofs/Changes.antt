@@ -7,3 +7,7 @@ pub mod Relations
 pub mod Streams
 pub mod NewStream
 pub mod Stream
+pub mod Parents
+pub mod Links
+pub mod File
+pub mod Placed

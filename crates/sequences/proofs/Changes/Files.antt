@@ -1,4 +1,4 @@
--- A file written at a number other than the root's: the files stay consistent.
+-- A file written at a number other than the root's: the files stay consistent. And files with one added.
 use Prim.Native.Nat.{ℕ, _<_}
 use mathlib.Core.Path.{_≡_, refl, sym, _∙_, ap}
 use mathlib.Core.Bool.{Bool, true, false, true≢false}
@@ -15,6 +15,7 @@ use Rattle.records.specs.declared.FileNo.{FileNo}
 use Rattle.records.specs.declared.File.{File}
 use Rattle.consistency.specs.Relations.{validMasks}
 use Rattle.consistency.specs.Consistent.{FilesConsistent}
+use Rattle.sequences.proofs.Changes.Types.{same-number}
 
 -- a file that may be stored
 pub record FileSound (file : File) : Type 0 where
@@ -55,3 +56,22 @@ module _ (fs : List File) (n : FileNo) (file : File) (below : n .0 < length fs) 
         masksWithin =
             every (λ (x : File). fileUsed x ≡ true → validMasks (x .masks) ≡ true) (λ u. s .masksValid) (h .masksWithin);
       }
+
+-- the second table is the first with a file at a number that was free
+pub record FileAdded (fs gs : List File) (n : FileNo) : Type 0 where
+  pub wasFree : fileUsed (fileAt fs n) ≡ false
+  pub there : fileUsed (fileAt gs n) ≡ true
+  pub others : (f : FileNo) → f .0 ≢ n .0 → fileAt gs f ≡ fileAt fs f
+
+module _ {fs gs : List File} {n : FileNo} (added : FileAdded fs gs n) where
+  pub not-added : (f : FileNo) → fileUsed (fileAt fs f) ≡ true → f .0 ≢ n .0
+  not-added f u e =
+      not-both u (ap (λ (g : FileNo). fileUsed (fileAt fs g)) (same-number f n e) ∙ added .wasFree)
+
+  -- a used file stays as it is
+  pub used-kept : (f : FileNo) → fileUsed (fileAt fs f) ≡ true → fileAt gs f ≡ fileAt fs f
+  used-kept f u = added .others f (not-added f u)
+
+  -- a used file is the new one, or it was used before
+  pub used-before : (f : FileNo) → f .0 ≢ n .0 → fileUsed (fileAt gs f) ≡ true → fileUsed (fileAt fs f) ≡ true
+  used-before f e u = ap fileUsed (sym (added .others f e)) ∙ u

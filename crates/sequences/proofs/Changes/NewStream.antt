@@ -22,6 +22,7 @@ use Rattle.consistency.specs.Relations.{streamOf, unnamedOf}
 use Rattle.consistency.specs.Consistent.{StreamsConsistent}
 use Rattle.store.specs.Complete.{streamNew}
 use Rattle.sequences.proofs.Changes.Types.{same-number}
+use Rattle.sequences.proofs.Changes.Files.{FileAdded, not-added, used-before}
 use Rattle.sequences.proofs.Changes.Relations.{stream-used, stream-file, stream-of, unnamed-stream, unnamed-empty, unnamed-of}
 use Rattle.sequences.proofs.Changes.Streams.{StreamSound}
 
@@ -73,20 +74,19 @@ module _ (fs : List File) (ss : List BareStream) (f : FileNo) (type : FileType) 
 
 -- the unnamed one of a file whose number was free
 module _ (fs gs : List File) (ss : List BareStream) (n : FileNo) (type : FileType) (h : StreamsConsistent fs ss)
-    (wasFree : fileUsed (fileAt fs n) ≡ false)
-    (others : (f : FileNo) → f .0 ≢ n .0 → fileAt gs f ≡ fileAt fs f)
-    (used : isUsed type ≡ true)
+    (added : FileAdded fs gs n)
     (agrees : type ≡ fileAt gs n .«file_type»)
   where
-    no-stream : (t : StreamNo) → bareUsed (bareAt ss t) ≡ true → bareAt ss t .file ≡ n → ⊥
-    no-stream t u e = not-both (h .namesUsedFile t u) (ap (λ (f : FileNo). fileUsed (fileAt fs f)) e ∙ wasFree)
+    pub no-stream : (t : StreamNo) → bareUsed (bareAt ss t) ≡ true → bareAt ss t .file ≡ n → ⊥
+    no-stream t u e = not-added added (bareAt ss t .file) (h .namesUsedFile t u) (ap (λ (f : FileNo). f .0) e)
 
     unnamed : BareStream
     unnamed = streamNew n type []
 
     unnamed-made : StreamMade gs ss n type []
-    unfolding validStreamName all
-    unnamed-made = record { used = used; agrees = agrees; valid = refl; nameNew = λ t u e z. no-stream t u e }
+    unfolding validStreamName all fileUsed
+    unnamed-made =
+        record { used = ap isUsed agrees ∙ added .there; agrees = agrees; valid = refl; nameNew = λ t u e z. no-stream t u e }
 
     -- the new file has this stream, and every other one what it had
     one-each : (p : FileNo → BareStream → Bool) → ((f : FileNo) (x : BareStream) → p f x ≡ true → streamOf f x ≡ true)
@@ -113,7 +113,7 @@ module _ (fs gs : List File) (ss : List BareStream) (n : FileNo) (type : FileTyp
         made-sound gs ss n type [] unnamed-made
         (λ f u.
         one-each unnamedOf unnamed-stream (unnamed-of n unnamed own (made-units gs ss n type [] unnamed-made)) f
-        (λ e. h .oneUnnamed f (ap fileUsed (sym (others f e)) ∙ u)))
+        (λ e. h .oneUnnamed f (used-before added f e u)))
         (λ f u.
         one-each streamOf (λ g x q. q) own f
-        (λ e. h .directoriesHaveOne f (ap (λ (x : File). isDirectory (x .«file_type»)) (sym (others f e)) ∙ u)))
+        (λ e. h .directoriesHaveOne f (ap (λ (x : File). isDirectory (x .«file_type»)) (sym (added .others f e)) ∙ u)))
