@@ -11,3 +11,4 @@ pub mod Counting
 pub mod Permutations
 pub mod Pigeonhole
 pub mod Writes
+pub mod Slots

@@ -3,6 +3,7 @@ pub mod Located
 pub mod Granted
 pub mod Requested
 pub mod Prepared
+pub mod Changes
+pub mod Opens
 pub mod Views
-pub mod Stub
 pub mod Completed
