@@ -7,3 +7,6 @@ pub mod Set
 pub mod Permutations
 pub mod Pigeonhole
 pub mod Writes
+pub mod Default
+pub mod First
+pub mod Counting
