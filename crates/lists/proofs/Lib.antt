@@ -10,3 +10,4 @@ pub mod Writes
 pub mod Default
 pub mod First
 pub mod Counting
+pub mod PairsPerm

@@ -1,0 +1,68 @@
+-- Statements about every place, and about every two places, where one place is set and where the order changes.
+use Prim.Native.Nat.{ℕ, zero, suc, _≤_, _<_}
+use mathlib.Core.Path.{_≡_, refl, sym, _∙_, ap, ap₂}
+use mathlib.Core.Bool.{Bool, true, false, not, _&&_, _||_, false≢true}
+use mathlib.Core.List.{List, [], _∷_}
+use native.Mathlib.Omega.{arith}
+use lib.ListN.{length, getD, set}
+use Rattle.lists.specs.Lists.{all, any, pairs, Permutation, nil, skip, swap, both}
+use Rattle.lists.proofs.Tests.{or-neither}
+
+module _ {A : Type 0} (d : A) where
+  -- one place set: what holds of the new record and held at each place holds at each
+  pub set-each : (P : A → Type 0) (xs : List A) (i : ℕ) (y : A) → P y → ((j : ℕ) → P (getD xs j d))
+      → (j : ℕ) → P (getD (set xs i y) j d)
+  set-each P [] i y n h j = h j
+  set-each P (x ∷ xs) zero y n h zero = n
+  set-each P (x ∷ xs) zero y n h (suc j) = h (suc j)
+  set-each P (x ∷ xs) (suc i) y n h zero = h 0
+  set-each P (x ∷ xs) (suc i) y n h (suc j) = set-each P xs i y n (λ k. h (suc k)) j
+
+  -- the same of two places, for what doesn't depend on their order
+  pub set-pairs : (R : A → A → Type 0) → ((x y : A) → R x y → R y x) → (xs : List A) (i : ℕ) (y : A)
+      → ((j : ℕ) → R y (getD xs j d)) → ((j k : ℕ) → j < k → R (getD xs j d) (getD xs k d))
+      → (j k : ℕ) → j < k → R (getD (set xs i y) j d) (getD (set xs i y) k d)
+  set-pairs R s [] i y n h j k l = h j k l
+  set-pairs R s (x ∷ xs) i y n h j zero l = absurd (let z : ⊥ = omega arith in z)
+  set-pairs R s (x ∷ xs) zero y n h zero (suc k) l = n (suc k)
+  set-pairs R s (x ∷ xs) zero y n h (suc j) (suc k) l = h (suc j) (suc k) l
+  set-pairs R s (x ∷ xs) (suc i) y n h zero (suc k) l =
+      set-each (R x) xs i y (s y x (n 0)) (λ m. h 0 (suc m) (omega arith)) k
+  set-pairs R s (x ∷ xs) (suc i) y n h (suc j) (suc k) l =
+      set-pairs R s xs i y (λ m. n (suc m)) (λ a b c. h (suc a) (suc b) (omega arith)) j k (omega arith)
+
+  -- no element passes: no place does, where the default doesn't
+  pub none-slots : (p : A → Bool) → p d ≡ false → (xs : List A) → any p xs ≡ false → (i : ℕ) → p (getD xs i d) ≡ false
+  unfolding any
+  none-slots p e [] h i = e
+  none-slots p e (x ∷ xs) h zero = or-neither (p x) (any p xs) h .0
+  none-slots p e (x ∷ xs) h (suc i) = none-slots p e xs (or-neither (p x) (any p xs) h .1) i
+
+and-swap : (a b c : Bool) → (a && (b && c)) ≡ (b && (a && c))
+and-swap true true c = refl
+and-swap true false c = refl
+and-swap false true c = refl
+and-swap false false c = refl
+
+and-first : (a b c d : Bool) → ((a && b) && (c && d)) ≡ ((a && c) && (b && d))
+and-first true b c d = and-swap b c d
+and-first false b c d = refl
+
+module _ {A : Type 0} where
+  pub perm-all : (p : A → Bool) {xs ys : List A} → Permutation xs ys → all p xs ≡ all p ys
+  unfolding all
+  perm-all p nil = refl
+  perm-all p (skip x h) = ap (λ (b : Bool). p x && b) (perm-all p h)
+  perm-all p (swap x y xs) = and-swap (p x) (p y) (all p xs)
+  perm-all p (both h k) = perm-all p h ∙ perm-all p k
+
+  -- a test of every pair that doesn't depend on their order doesn't depend on that of the list
+  module _ (r : A → A → Bool) (s : (x y : A) → r x y ≡ r y x) where
+    pub perm-pairs : {xs ys : List A} → Permutation xs ys → pairs r xs ≡ pairs r ys
+    unfolding pairs all
+    perm-pairs nil = refl
+    perm-pairs (skip x {xs} {ys} h) = ap₂ (λ (a b : Bool). a && b) (perm-all (r x) h) (perm-pairs h)
+    perm-pairs (swap x y xs) =
+        and-first (r x y) (all (r x) xs) (all (r y) xs) (pairs r xs)
+        ∙ ap (λ (b : Bool). (b && all (r y) xs) && (all (r x) xs && pairs r xs)) (s x y)
+    perm-pairs (both h k) = perm-pairs h ∙ perm-pairs k

@@ -1,0 +1,2 @@
+-- The table of opens and the share counts: what an open that joins, a change of the names and an open that leaves do.
+pub mod Names
