@@ -1,12 +1,13 @@
 -- Statements about every place, and about every two places, where one place is set and where the order changes.
-use Prim.Native.Nat.{ℕ, zero, suc, _≤_, _<_}
-use mathlib.Core.Path.{_≡_, refl, sym, _∙_, ap, ap₂}
-use mathlib.Core.Bool.{Bool, true, false, not, _&&_, _||_, false≢true}
+use Prim.Native.Nat.{ℕ, zero, suc, _<_}
+use mathlib.Core.Path.{_≡_, refl, _∙_, ap, ap₂}
+use mathlib.Core.Bool.{Bool, true, false, not, _&&_, _||_}
 use mathlib.Core.List.{List, [], _∷_}
 use native.Mathlib.Omega.{arith}
-use lib.ListN.{length, getD, set}
-use Rattle.lists.specs.Lists.{all, any, pairs, Permutation, nil, skip, swap, both}
-use Rattle.lists.proofs.Tests.{or-neither}
+use lib.ListN.{getD, set}
+use Rattle.lists.specs.Lists.{all, any, keep, pairs, Permutation, nil, skip, swap, both}
+use Rattle.lists.proofs.Tests.{not-is, not-both, and-left, and-right, and-both, or-neither}
+use Rattle.lists.proofs.Keep.{keep-yes, keep-no}
 
 module _ {A : Type 0} (d : A) where
   -- one place set: what holds of the new record and held at each place holds at each
@@ -31,12 +32,48 @@ module _ {A : Type 0} (d : A) where
   set-pairs R s (x ∷ xs) (suc i) y n h (suc j) (suc k) l =
       set-pairs R s xs i y (λ m. n (suc m)) (λ a b c. h (suc a) (suc b) (omega arith)) j k (omega arith)
 
-  -- no element passes: no place does, where the default doesn't
-  pub none-slots : (p : A → Bool) → p d ≡ false → (xs : List A) → any p xs ≡ false → (i : ℕ) → p (getD xs i d) ≡ false
+-- no kept element passes, as a statement about every place: past the end stands a default, which isn't kept
+module _ {A : Type 0} (p q : A → Bool) (d : A) where
+  pub none-kept-at : p d ≡ false → (xs : List A) → any q (keep p xs) ≡ false
+      → (i : ℕ) → p (getD xs i d) ≡ true → q (getD xs i d) ≡ false
   unfolding any
-  none-slots p e [] h i = e
-  none-slots p e (x ∷ xs) h zero = or-neither (p x) (any p xs) h .0
-  none-slots p e (x ∷ xs) h (suc i) = none-slots p e xs (or-neither (p x) (any p xs) h .1) i
+  none-kept-at e [] h i u = absurd (not-both u e)
+  none-kept-at e (x ∷ xs) h zero u = or-neither (q x) (any q (keep p xs)) (rw (keep-yes p x xs u) at h) .0
+  none-kept-at e (x ∷ xs) h (suc i) u = none-kept-at e xs (go (p x) refl) i u
+    where
+      go : (b : Bool) → p x ≡ b → any q (keep p xs) ≡ false
+      go true f = or-neither (q x) (any q (keep p xs)) (rw (keep-yes p x xs f) at h) .1
+      go false f = rw (keep-no p x xs f) at h
+
+  pub none-kept-of : (xs : List A) → ((i : ℕ) → p (getD xs i d) ≡ true → q (getD xs i d) ≡ false) → any q (keep p xs) ≡ false
+  unfolding any keep
+  none-kept-of [] h = refl
+  none-kept-of (x ∷ xs) h = go (p x) refl (none-kept-of xs (λ i u. h (suc i) u))
+    where
+      go : (b : Bool) → p x ≡ b → any q (keep p xs) ≡ false → any q (keep p (x ∷ xs)) ≡ false
+      go true e k = rw (keep-yes p x xs e) (ap₂ (λ (a b : Bool). a || b) (h 0 e) k)
+      go false e k = rw (keep-no p x xs e) k
+
+-- a test implies another
+pub all-weaker : {A : Type 0} (p q : A → Bool) → ((x : A) → p x ≡ true → q x ≡ true) → (xs : List A) → all p xs ≡ true → all q xs ≡ true
+unfolding all
+all-weaker p q i [] h = refl
+all-weaker p q i (x ∷ xs) h =
+    and-both (i x (and-left (p x) (all p xs) h)) (all-weaker p q i xs (and-right (p x) (all p xs) h))
+
+-- no element passes: none is kept, and by the opposite test all are
+module _ {A : Type 0} (p : A → Bool) where
+  pub keep-none : (xs : List A) → any p xs ≡ false → keep p xs ≡ []
+  unfolding any keep
+  keep-none [] h = refl
+  keep-none (x ∷ xs) h = let n = or-neither (p x) (any p xs) h in keep-no p x xs (n .0) ∙ keep-none xs (n .1)
+
+  pub keep-others : (xs : List A) → any p xs ≡ false → keep (λ x. not (p x)) xs ≡ xs
+  unfolding any keep
+  keep-others [] h = refl
+  keep-others (x ∷ xs) h =
+      let n = or-neither (p x) (any p xs) h in
+      keep-yes (λ y. not (p y)) x xs (not-is (n .0)) ∙ ap {B = List A} (λ r. x ∷ r) (keep-others xs (n .1))
 
 and-swap : (a b c : Bool) → (a && (b && c)) ≡ (b && (a && c))
 and-swap true true c = refl

@@ -1,8 +1,7 @@
 -- Opens come and go and the names stay; a change of the volume is the change of its names.
-use Prim.Native.Nat.{ℕ}
-use mathlib.Core.Path.{_≡_, refl, sym, _∙_, ap}
+use mathlib.Core.Path.{_≡_, refl, ap}
 use mathlib.Core.List.{List, map}
-use lib.ListN.{length, getD, List·getD-map}
+use lib.ListN.{List·getD-map}
 use lib.Seq.{map-set-same}
 use Rattle.lists.specs.Lists.{writes}
 use Rattle.lists.proofs.Writes.{map-writes}
