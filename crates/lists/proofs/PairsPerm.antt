@@ -1,10 +1,11 @@
--- Statements about every place, and about every two places, where one place is set and where the order changes.
+-- Statements about every place and every two places: of a list with one place set, of the elements kept, where none
+-- passes, and of the list in another order.
 use Prim.Native.Nat.{ℕ, zero, suc, _<_}
 use mathlib.Core.Path.{_≡_, refl, _∙_, ap, ap₂}
 use mathlib.Core.Bool.{Bool, true, false, not, _&&_, _||_}
 use mathlib.Core.List.{List, [], _∷_}
 use native.Mathlib.Omega.{arith}
-use lib.ListN.{getD, set}
+use lib.ListN.{length, getD, set}
 use Rattle.lists.specs.Lists.{all, any, keep, pairs, Permutation, nil, skip, swap, both}
 use Rattle.lists.proofs.Tests.{not-is, not-both, and-left, and-right, and-both, or-neither}
 use Rattle.lists.proofs.Keep.{keep-yes, keep-no}
@@ -32,6 +33,32 @@ module _ {A : Type 0} (d : A) where
   set-pairs R s (x ∷ xs) (suc i) y n h (suc j) (suc k) l =
       set-pairs R s xs i y (λ m. n (suc m)) (λ a b c. h (suc a) (suc b) (omega arith)) j k (omega arith)
 
+-- what holds at each place that is kept holds at each place of those kept
+pub kept-each : {A : Type 0} (p : A → Bool) (d : A) (P : A → Type 0) (xs : List A)
+    → ((i : ℕ) → p (getD xs i d) ≡ true → P (getD xs i d))
+    → (i : ℕ) → i < length (keep p xs) → P (getD (keep p xs) i d)
+unfolding keep
+kept-each p d P [] h i b = absurd (let z : ⊥ = omega arith in z)
+kept-each p d P (x ∷ xs) h i b = go (p x) refl (kept-each p d P xs (λ j u. h (suc j) u)) i b
+  where
+    first-too : p x ≡ true → ((j : ℕ) → j < length (keep p xs) → P (getD (keep p xs) j d))
+        → (j : ℕ) → j < length (x ∷ keep p xs) → P (getD (x ∷ keep p xs) j d)
+    first-too u r zero c = h 0 u
+    first-too u r (suc j) c = r j (omega arith)
+
+    go : (b : Bool) → p x ≡ b → ((j : ℕ) → j < length (keep p xs) → P (getD (keep p xs) j d))
+        → (j : ℕ) → j < length (keep p (x ∷ xs)) → P (getD (keep p (x ∷ xs)) j d)
+    go true e r = rw (keep-yes p x xs e) (first-too e r)
+    go false e r = rw (keep-no p x xs e) r
+
+-- no place passes: no element does
+pub none-of : {A : Type 0} (q : A → Bool) (d : A) (xs : List A)
+    → ((i : ℕ) → i < length xs → q (getD xs i d) ≡ false) → any q xs ≡ false
+unfolding any
+none-of q d [] h = refl
+none-of q d (x ∷ xs) h =
+    ap₂ (λ (a b : Bool). a || b) (h 0 (omega arith)) (none-of q d xs (λ i b. h (suc i) (omega arith)))
+
 -- no kept element passes, as a statement about every place: past the end stands a default, which isn't kept
 module _ {A : Type 0} (p q : A → Bool) (d : A) where
   pub none-kept-at : p d ≡ false → (xs : List A) → any q (keep p xs) ≡ false
@@ -45,17 +72,17 @@ module _ {A : Type 0} (p q : A → Bool) (d : A) where
       go true f = or-neither (q x) (any q (keep p xs)) (rw (keep-yes p x xs f) at h) .1
       go false f = rw (keep-no p x xs f) at h
 
-  pub none-kept-of : (xs : List A) → ((i : ℕ) → p (getD xs i d) ≡ true → q (getD xs i d) ≡ false) → any q (keep p xs) ≡ false
-  unfolding any keep
-  none-kept-of [] h = refl
-  none-kept-of (x ∷ xs) h = go (p x) refl (none-kept-of xs (λ i u. h (suc i) u))
-    where
-      go : (b : Bool) → p x ≡ b → any q (keep p xs) ≡ false → any q (keep p (x ∷ xs)) ≡ false
-      go true e k = rw (keep-yes p x xs e) (ap₂ (λ (a b : Bool). a || b) (h 0 e) k)
-      go false e k = rw (keep-no p x xs e) k
+-- one test decides another
+pub none-too : {A : Type 0} (p q : A → Bool) → ((x : A) → p x ≡ false → q x ≡ false)
+    → (xs : List A) → any p xs ≡ false → any q xs ≡ false
+unfolding any
+none-too p q i [] h = refl
+none-too p q i (x ∷ xs) h =
+    let n = or-neither (p x) (any p xs) h in
+    ap₂ (λ (a b : Bool). a || b) (i x (n .0)) (none-too p q i xs (n .1))
 
--- a test implies another
-pub all-weaker : {A : Type 0} (p q : A → Bool) → ((x : A) → p x ≡ true → q x ≡ true) → (xs : List A) → all p xs ≡ true → all q xs ≡ true
+pub all-weaker : {A : Type 0} (p q : A → Bool) → ((x : A) → p x ≡ true → q x ≡ true)
+    → (xs : List A) → all p xs ≡ true → all q xs ≡ true
 unfolding all
 all-weaker p q i [] h = refl
 all-weaker p q i (x ∷ xs) h =

@@ -4,3 +4,6 @@ pub mod Table
 pub mod Join
 pub mod Leave
 pub mod Counts
+pub mod Conflicts
+pub mod Pairwise
+pub mod Close

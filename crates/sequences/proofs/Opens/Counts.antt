@@ -13,7 +13,7 @@ use borrow.Author.Tests.{eq-eqb, ne-eqb, not-true}
 use Rattle.lists.specs.Lists.{all, any, count, writes}
 use Rattle.lists.proofs.Tests.{and-left, and-right, not-is, not-both}
 use Rattle.lists.proofs.Set.{set-cases}
-use Rattle.lists.proofs.PairsPerm.{none-kept-of, all-weaker, keep-none}
+use Rattle.lists.proofs.PairsPerm.{none-of, kept-each, all-weaker, keep-none}
 use Rattle.records.specs.Slots.{zeroCounts, zeroOpen, zeroStream, openUsed, streamAt}
 use Rattle.records.specs.Namespace.{BareStream, zeroBare, bareUsed, bareAt, bare, withCounts}
 use Rattle.records.specs.declared.StreamNo.{StreamNo}
@@ -114,10 +114,11 @@ free-unopened : {bs : List BareStream} {next : ℕ} {os : List Open} → OpensCo
     → bareUsed (bareAt bs s) ≡ false → any (onStream s) (live os) ≡ false
 unfolding live onStream bareAt
 free-unopened {bs} {next} {os} c s f =
-    none-kept-of openUsed (onStream s) zeroOpen os
+    none-of (onStream s) zeroOpen (live os)
+    (kept-each openUsed zeroOpen (λ o. onStream s o ≡ false) os
     (λ i u.
     ne-eqb (openAt os i .stream .0) (s .0)
-    (λ e. not-both (c .namesUsedStream i u) (ap (λ (n : ℕ). bareUsed (getD bs n zeroBare)) e ∙ f)))
+    (λ e. not-both (c .namesUsedStream i u) (ap (λ (n : ℕ). bareUsed (getD bs n zeroBare)) e ∙ f))))
 
 pub counts-changed-free : {bs : List BareStream} {next : ℕ} {os : List Open} → OpensConsistent bs next os
     → (ws : List (StreamNo × BareStream)) → all (λ w. not (bareUsed (bareAt bs (w .0)))) ws ≡ true

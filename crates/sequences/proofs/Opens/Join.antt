@@ -62,7 +62,9 @@ pub joined : {ss : List BareStream} {next : ℕ} {os : List Open} {o : Open} →
     → any (λ q. not (openUsed q)) os ≡ true
     → OpensConsistent ss (suc next) (rowsWithOpen o os)
 unfolding conflicting
-joined {ss} {next} {os} {o} c j n r = rw (t .rows) (replaced c (omega arith) (t .slot) o (λ z. absurd (not-both (joins-used j (c .nextAtLeast)) z)) (λ u. stands) (λ i u. apart i))
+joined {ss} {next} {os} {o} c j n r =
+    rw (t .rows)
+    (replaced c (omega arith) (t .slot) o (λ z. absurd (not-both (joins-used j (c .nextAtLeast)) z)) (λ u. stands) (λ i u. apart i))
   where
     t : Taken o os
     t = taken o os r

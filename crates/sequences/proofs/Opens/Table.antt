@@ -60,13 +60,19 @@ module _ {ss : List BareStream} {next : ℕ} {os : List Open} (c : OpensConsiste
   pub stands-at : (i : ℕ) → openUsed (openAt os i) ≡ true → Stands ss next (openAt os i)
   stands-at i u =
       record {
-        grantable = record { nonzero = c .grantedNonzero i u; grantedWithin = c .grantedWithin i u; shareAtMost = c .shareAtMost i u };
+        grantable =
+            record {
+              nonzero = c .grantedNonzero i u;
+              grantedWithin = c .grantedWithin i u;
+              shareAtMost = c .shareAtMost i u;
+            };
         streamUsed = c .namesUsedStream i u;
         streamFile = c .namesItsFile i u;
         handleBelow = c .handlesBelow i u;
       }
 
-  pub apart-at : (i j : ℕ) → i < j → openUsed (openAt os i) ≡ true → openUsed (openAt os j) ≡ true → Apart (openAt os i) (openAt os j)
+  pub apart-at : (i j : ℕ) → i < j → openUsed (openAt os i) ≡ true → openUsed (openAt os j) ≡ true
+      → Apart (openAt os i) (openAt os j)
   apart-at i j l u w = record { handlesDiffer = c .handlesDiffer i j l u w; noConflict = c .noConflict i j l u w }
 
 -- the table from its slots
@@ -92,7 +98,8 @@ opens-from n a z s d =
     }
 
 -- a slot takes another record
-pub replaced : {ss : List BareStream} {next next′ : ℕ} {os : List Open} → OpensConsistent ss next os → next ≤ next′ → (i : ℕ) (o : Open)
+pub replaced : {ss : List BareStream} {next next′ : ℕ} {os : List Open} → OpensConsistent ss next os → next ≤ next′
+    → (i : ℕ) (o : Open)
     → (openUsed o ≡ false → o ≡ zeroOpen)
     → (openUsed o ≡ true → Stands ss next′ o)
     → ((j : ℕ) → openUsed o ≡ true → openUsed (openAt os j) ≡ true → Apart o (openAt os j))
@@ -101,8 +108,8 @@ replaced {ss} {next} {next′} {os} c l i o z s a =
     opens-from (length-set os i o ∙ c .size) (omega (arith, c .nextAtLeast))
     (set-each zeroOpen (λ q. openUsed q ≡ false → q ≡ zeroOpen) os i o z (c .freeZero))
     (set-each zeroOpen (λ q. openUsed q ≡ true → Stands ss next′ q) os i o s (λ j u. later (stands-at c j u)))
-    (set-pairs zeroOpen (λ q r. openUsed q ≡ true → openUsed r ≡ true → Apart q r) (λ q r h u w. apart-sym q r (h w u)) os i o a
-    (apart-at c))
+    (set-pairs zeroOpen (λ q r. openUsed q ≡ true → openUsed r ≡ true → Apart q r) (λ q r h u w. apart-sym q r (h w u))
+    os i o a (apart-at c))
   where
     later : {q : Open} → Stands ss next q → Stands ss next′ q
     later h =
