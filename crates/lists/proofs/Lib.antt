@@ -6,9 +6,10 @@ pub mod Pairs
 pub mod Find
 pub mod First
 pub mod Set
+pub mod Slots
 pub mod Default
 pub mod Counting
 pub mod Permutations
+pub mod PairsPerm
 pub mod Pigeonhole
 pub mod Writes
-pub mod Slots
