@@ -31,7 +31,8 @@ use Rattle.store.specs.Prepare
 use Rattle.store.specs.Prepare.{ReadSharing, asOffered, addedIfAlone, deniedIfAlone, Existing, Creation, newStream, newFile, Pending, existing, creating}
 use Rattle.store.specs.Complete.{View, Change, changed, Decision, decided, shareOf, slotOr, freeStream, Placed, placeFile, placeStreams, place, nextHandle, attributeChange, complete}
 use Rattle.sequences.proofs.Facts.{NamesConsistent, AttributesFit, CreationFits, Grantable, ExistingFits, PendingFits, StreamsKept, PlacedWell, Joins}
-use Rattle.sequences.proofs.Stub.{placed-well, attributes-kept}
+use Rattle.sequences.proofs.Changes.Attributes.{attributes-kept}
+use Rattle.sequences.proofs.Changes.Placed.{placed-well}
 
 -- the streams that a change writes were free
 abbrev pub WrittenFree : Namespace → Change → Type 0
@@ -105,8 +106,8 @@ module _ (ns : Namespace) where
   streams-free f file l link name s e p h =
       ⊎-elim (λ k. written-free k (and-both (free-stream ns 0 s e) refl))
       (λ k.
-        let t = bind-passed _ _ k in
-        written-free (t .2) (and-both (free-stream ns 0 s e) (and-both (free-stream ns (suc (s .0)) (t .0) (t .1)) refl)))
+      let t = bind-passed _ _ k in
+      written-free (t .2) (and-both (free-stream ns 0 s e) (and-both (free-stream ns (suc (s .0)) (t .0) (t .1)) refl)))
       (either (isEmpty name) _ _ h)
 
   placed-free : (c : Creation) (p : Placed) → place ns c ≡ passed p → WrittenFree ns (p .change)
@@ -135,7 +136,7 @@ accepted : (ns : Namespace) (view : View) (e : Existing) (share handle : ℕ) �
     → view .conflicts (e .stream) (e .granted) (e .share) ≡ false
     → (share ≡ e .share) ⊎ (share ≡ bitOr (e .share) shareRead) → view .room ≡ true → handle ≡ view .next
     → DecisionFits ns view
-      (decided (e .action) (attributeChange ns (e .file) (e .attributes)) (e .file) (e .stream) (e .granted) share handle)
+    (decided (e .action) (attributeChange ns (e .file) (e .attributes)) (e .file) (e .stream) (e .granted) share handle)
 unfolding decided
 accepted ns view e share handle ok fits free s room next =
     let q = attributes-alone ns (e .file) ok (e .attributes) (fits .attributes) in
@@ -145,17 +146,17 @@ accepted ns view e share handle ok fits free s room next =
       kept = record { sameLength = ap length (q .1); usedKept = λ t u. ap (λ (ss : List BareStream). bareAt ss t) (q .1) };
       writtenFree = q .2;
       joins =
-        record {
-          grantable =
-            record {
-              nonzero = fits .grantable .nonzero;
-              grantedWithin = fits .grantable .grantedWithin;
-              shareAtMost = share-small (e .share) share (fits .grantable .shareAtMost) s;
-            };
-          streamUsed = ap (λ (ss : List BareStream). bareUsed (at ss)) (q .1) ∙ fits .streamUsed;
-          streamFile = sym (ap (λ (ss : List BareStream). at ss .file) (q .1) ∙ fits .streamFile);
-          handle = next;
-        };
+          record {
+            grantable =
+                record {
+                  nonzero = fits .grantable .nonzero;
+                  grantedWithin = fits .grantable .grantedWithin;
+                  shareAtMost = share-small (e .share) share (fits .grantable .shareAtMost) s;
+                };
+            streamUsed = ap (λ (ss : List BareStream). bareUsed (at ss)) (q .1) ∙ fits .streamUsed;
+            streamFile = sym (ap (λ (ss : List BareStream). at ss .file) (q .1) ∙ fits .streamFile);
+            handle = next;
+          };
       room = room;
       unopposed = inl (e .share, free, s);
     }
@@ -190,5 +191,5 @@ completed ns view (creating c granted share) d ok fits h =
     let n = bind-passed _ _ (p .2) in
     let q = slot-free view (n .0) (n .1) in
     subst (DecisionFits ns view) (passed-same (n .2))
-    (created ns view c granted share (n .0) (p .0) (fits .1) (placed-well ns c ok (fits .0) (p .0) (p .1))
-      (placed-free ns c (p .0) (p .1)) (q .0) (q .1))
+    (created ns view c granted share (n .0) (p .0) (fits .1) (placed-well ns ok c (fits .0) (p .0) (p .1))
+    (placed-free ns c (p .0) (p .1)) (q .0) (q .1))

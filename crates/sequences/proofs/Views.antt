@@ -63,7 +63,7 @@ module _ {t : Tables} {m : Model} (related : Related t m) where
   room-agrees =
       any-fails openUsed (t .opens .rows)
       ∙ ap₂ ltb (sym (length-keep openUsed (t .opens .rows)) ∙ perm-length (related .opensAreEntries))
-        (related .consistentTables .opens .size)
+      (related .consistentTables .opens .size)
 
 -- what completing a pending open asks
 pub record Alike (view view′ : View) (p : Pending) : Type 0 where
@@ -86,8 +86,8 @@ completed-alike view view′ ns (existing e) alike =
     >> (shareOf (e .readSharing) (not (alike .fileOpen e refl i)) (e .share)
     >>= (λ share. slot (alike .room i) (alike .next i)
     >>= (λ handle.
-      passed
-      (decided (e .action) (attributeChange ns (e .file) (e .attributes)) (e .file) (e .stream) (e .granted) share handle))))
+    passed
+    (decided (e .action) (attributeChange ns (e .file) (e .attributes)) (e .file) (e .stream) (e .granted) share handle))))
 completed-alike view view′ ns (creating c granted share) alike =
     λ i.
     place ns c
