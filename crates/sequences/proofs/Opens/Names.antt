@@ -1,25 +1,22 @@
 -- Opens come and go and the names stay; a change of the volume is the change of its names.
-use mathlib.Core.Bool.{true, false}
+use mathlib.Core.Bool.{true}
 use Prim.Native.Nat.{_<_}
 use mathlib.Core.Path.{_≡_, refl, ap}
 use mathlib.Core.List.{List, map}
-use mathlib.Core.Logic.{_⊎_, inl, inr}
 use native.Mathlib.Omega.{arith}
-use lib.Dec.{ltb}
-use lib.ListN.{length, length-map, List·getD-map, List·getD-eq-default}
+use lib.ListN.{length, length-map, List·getD-map}
 use lib.Seq.{map-set-same}
-use borrow.Author.Tests.{ltb-true, ltb-false}
 use Rattle.lists.specs.Lists.{writes}
-use Rattle.lists.proofs.Tests.{tested, not-both}
 use Rattle.lists.proofs.Writes.{map-writes}
-use Rattle.records.specs.Slots.{zeroStream, isUsed, streamAt}
-use Rattle.records.specs.Namespace.{Namespace, BareStream, zeroBare, bareUsed, bareAt, bare, withCounts, namespace}
+use Rattle.records.specs.Slots.{zeroStream, streamAt}
+use Rattle.records.specs.Namespace.{Namespace, BareStream, bareUsed, bareAt, bare, withCounts, namespace}
 use Rattle.records.specs.declared.StreamNo.{StreamNo}
 use Rattle.records.specs.declared.ShareCounts.{ShareCounts}
 use Rattle.records.specs.declared.Stream.{Stream}
 use Rattle.records.specs.declared.Open.{Open}
 use Rattle.records.specs.declared.Volume.{Volume}
 use Rattle.sharing.specs.Sharing.{withOpen, withoutOpen}
+use Rattle.consistency.proofs.Streams.{stream-in}
 use Rattle.store.specs.Complete.{Change, changed}
 use Rattle.store.specs.Store.{freshStream, changedVolume, recount, volumeWithOpen, volumeWithoutOpen}
 
@@ -30,16 +27,7 @@ bare-at ss s = List·getD-map bare ss (s .0) zeroStream
 
 -- a used stream stands below the end
 pub used-below : (ss : List Stream) (s : StreamNo) → bareUsed (bareAt (map bare ss) s) ≡ true → s .0 < length ss
-unfolding bareUsed bareAt isUsed
-used-below ss s u = go (tested (ltb (s .0) (length ss)))
-  where
-    go : (ltb (s .0) (length ss) ≡ true) ⊎ (ltb (s .0) (length ss) ≡ false) → s .0 < length ss
-    go (inl e) = ltb-true (s .0) (length ss) e
-    go (inr e) =
-        absurd
-        (not-both u
-        (ap bareUsed
-        (List·getD-eq-default (map bare ss) zeroBare (omega (arith, length-map ss bare, ltb-false (s .0) (length ss) e)))))
+used-below ss s u = omega (arith, stream-in (map bare ss) s u, length-map ss bare)
 
 pub recount-bare : (f : ShareCounts → ShareCounts) (s : StreamNo) (ss : List Stream) → map bare (recount f s ss) ≡ map bare ss
 unfolding recount streamAt bare withCounts

@@ -1,7 +1,7 @@
 -- Live opens in any order: each two have different handles, and don't conflict on one stream.
 use Prim.Native.Nat.{ℕ, _<_}
 use mathlib.Core.Path.{_≡_, refl, sym, _∙_, ap}
-use mathlib.Core.Bool.{Bool, true, false, not, _&&_}
+use mathlib.Core.Bool.{Bool, true, false, _&&_}
 use mathlib.Core.List.{List}
 use lib.Dec.{eqb}
 use lib.ListN.{length}
@@ -17,37 +17,33 @@ use Rattle.records.specs.declared.Handle.{Handle}
 use Rattle.records.specs.declared.Open.{Open}
 use Rattle.sharing.specs.Sharing.{conflicting}
 use Rattle.consistency.specs.Relations.{live}
+use Rattle.consistency.specs.Test.{handlesDiffer, opensAgree}
 use Rattle.consistency.specs.Consistent.{openAt, OpensConsistent}
 use Rattle.sequences.proofs.Opens.Table.{Apart, apart-sym, apart-at}
 
--- Apart, computed
-handlesApart : Open → Open → Bool
-handlesApart o q = not (eqb (o .handle .0) (q .handle .0))
-
-streamsApart : Open → Open → Bool
-streamsApart o q = not (eqb (o .stream .0) (q .stream .0) && conflicting o q)
-
+-- Apart, by the tests of the audit
 apart : Open → Open → Bool
-apart o q = handlesApart o q && streamsApart o q
+apart o q = handlesDiffer o q && opensAgree o q
 
 apart-is : (o q : Open) → apart o q ≡ true → Apart o q
-unfolding apart handlesApart streamsApart
+unfolding apart handlesDiffer opensAgree
 apart-is o q h =
     record {
       handlesDiffer =
           λ e.
           eqb-false (o .handle .0) (q .handle .0)
-          (not-true (eqb (o .handle .0) (q .handle .0)) (and-left (handlesApart o q) (streamsApart o q) h))
+          (not-true (eqb (o .handle .0) (q .handle .0)) (and-left (handlesDiffer o q) (opensAgree o q) h))
           (ap (λ (x : Handle). x .0) e);
       noConflict =
           λ e.
           and-fails (eqb (o .stream .0) (q .stream .0)) (conflicting o q)
           (eq-eqb (o .stream .0) (q .stream .0) (ap (λ (x : StreamNo). x .0) e))
-          (not-true (eqb (o .stream .0) (q .stream .0) && conflicting o q) (and-right (handlesApart o q) (streamsApart o q) h));
+          (not-true (eqb (o .stream .0) (q .stream .0) && conflicting o q)
+          (and-right (handlesDiffer o q) (opensAgree o q) h));
     }
 
 apart-of : (o q : Open) → Apart o q → apart o q ≡ true
-unfolding apart handlesApart streamsApart
+unfolding apart handlesDiffer opensAgree
 apart-of o q a =
     and-both
     (not-is (ne-eqb (o .handle .0) (q .handle .0) (λ e. a .handlesDiffer (ap {B = Handle} (λ n. record { 0 = n }) e))))
