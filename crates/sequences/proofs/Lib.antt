@@ -7,3 +7,4 @@ pub mod Changes
 pub mod Opens
 pub mod Views
 pub mod Completed
+pub mod Steps

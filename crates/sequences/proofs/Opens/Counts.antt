@@ -110,7 +110,7 @@ counts-changed (w ∷ ws) ss os h c =
     c)
 
 -- free numbers are such: a live open names a used stream
-free-unopened : {bs : List BareStream} {next : ℕ} {os : List Open} → OpensConsistent bs next os → (s : StreamNo)
+pub free-unopened : {bs : List BareStream} {next : ℕ} {os : List Open} → OpensConsistent bs next os → (s : StreamNo)
     → bareUsed (bareAt bs s) ≡ false → any (onStream s) (live os) ≡ false
 unfolding live onStream bareAt
 free-unopened {bs} {next} {os} c s f =
