@@ -9,6 +9,7 @@ use native.Mathlib.Omega.{arith}
 use lib.ListN.{length, getD, drop, length-drop}
 use lib.Seq.{getD-drop}
 use Rattle.lists.specs.Lists.{any, firstFrom, first, firstAfter}
+use Rattle.lists.proofs.Tests.{none≢some}
 
 -- a place that a search finds: below the length, it passes, and no lower one from the start of the search does
 pub record Found {A : Type 0} (p : A → Bool) (xs : List A) (d : A) (n : ℕ) (k : ℕ) : Type 0 where
@@ -18,9 +19,6 @@ pub record Found {A : Type 0} (p : A → Bool) (xs : List A) (d : A) (n : ℕ) (
   pub lowest : (i : ℕ) → n ≤ i → i < k → p (getD xs i d) ≡ false
 
 module _ {A : Type 0} (p : A → Bool) (d : A) where
-  unlikely : {k : ℕ} → Path (Option ℕ) none (some k) → ⊥
-  unlikely e = let z : _≡_ {A = ℕ} 0 1 = cc in omega arith
-
   here : (x : A) (xs : List A) (at : ℕ) → p x ≡ true → firstFrom p (x ∷ xs) at ≡ some at
   unfolding firstFrom
   here x xs at e = rw (e, firstFrom)
@@ -36,7 +34,7 @@ module _ {A : Type 0} (p : A → Bool) (d : A) where
   from-found : (xs : List A) (at k : ℕ) → firstFrom p xs at ≡ some k
       → (j : ℕ) × (k ≡ at + j) × (j < length xs) × (p (getD xs j d) ≡ true) × ((i : ℕ) → i < j → p (getD xs i d) ≡ false)
   unfolding firstFrom
-  from-found [] at k h = absurd (unlikely h)
+  from-found [] at k h = absurd (none≢some h)
   from-found (x ∷ xs) at k h = go (p x) refl (λ f. from-found xs (suc at) k f)
     where
       T : Type 0
@@ -80,7 +78,7 @@ module _ {A : Type 0} (p : A → Bool) (d : A) where
   from-none (x ∷ xs) at h = go (p x) refl (λ f. from-none xs (suc at) f)
     where
       go : (b : Bool) → p x ≡ b → (firstFrom p xs (suc at) ≡ none → any p xs ≡ false) → any p (x ∷ xs) ≡ false
-      go true e f = absurd (unlikely (sym h ∙ here x xs at e))
+      go true e f = absurd (none≢some (sym h ∙ here x xs at e))
       go false e f = any-next x xs e ∙ f (sym (next x xs at e) ∙ h)
 
   from-some : (xs : List A) (at : ℕ) → any p xs ≡ true → (k : ℕ) × (firstFrom p xs at ≡ some k)

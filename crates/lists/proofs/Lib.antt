@@ -1,9 +1,13 @@
+-- Laws on lists, each about one thing.
 pub mod Tests
 pub mod All
 pub mod Keep
 pub mod Pairs
 pub mod Find
+pub mod First
 pub mod Set
+pub mod Default
+pub mod Counting
 pub mod Permutations
 pub mod Pigeonhole
 pub mod Writes

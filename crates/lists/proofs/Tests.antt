@@ -4,9 +4,15 @@ use mathlib.Core.Path.{_≡_, refl, sym, _∙_, ap, ap₂}
 use mathlib.Core.Bool.{Bool, true, false, not, cond, _&&_, _||_, true≢false, false≢true}
 use mathlib.Core.List.{List, [], _∷_}
 use mathlib.Core.Logic.{_↔_, _⊎_, inl, inr}
+use mathlib.Core.Option.{Option, none, some}
+use native.Mathlib.Omega.{arith}
 use lib.Dec.{eqb, leb, ltb}
 use borrow.Author.Tests.{eqb-true, eqb-false, eq-eqb, ne-eqb, leb-true, le-leb, ltb-true, lt-ltb, not-true}
 use Rattle.lists.specs.Lists.{same, isEmpty}
+
+-- nothing is no value
+pub none≢some : {A : Type 0} {a : A} → Path (Option A) none (some a) → ⊥
+none≢some e = let z : _≡_ {A = ℕ} 0 1 = cc in omega arith
 
 -- a test passes or fails
 pub tested : (b : Bool) → (b ≡ true) ⊎ (b ≡ false)

@@ -52,6 +52,20 @@ pub data Pending : Type 0 where
   existing : Existing → Pending
   creating : Creation → ℕ → ℕ → Pending
 
+-- an open of a stream that is there, once its access is granted
+unfoldable pub opening : Request → FileNo → StreamNo → ReadSharing → CreateAction → Option ℕ → ℕ → Pending
+opening r f s readSharing action attributes granted =
+    existing
+    (record {
+      file = f;
+      stream = s;
+      granted = granted;
+      share = r .share;
+      readSharing = readSharing;
+      action = action;
+      attributes = attributes;
+    })
+
 -- the access rule on a file, for the request's account
 unfoldable pub grant : Namespace → Request → FileNo → ℕ → Checked ℕ
 grant ns r f access = checkedAccess (accessRule (fileAt (ns .files) f) (r .account) access)
@@ -107,33 +121,13 @@ prepareDirectory ns r f = do
       (cond (eqb (f .0) 0) AccessDenied ObjectNameCollision)
   granted ← grant ns r f (r .access)
   stream ← streamOr FileCorruptError (findStream ns false f [])
-  passed
-      (existing
-      (record {
-        file = f;
-        stream = stream;
-        granted = granted;
-        share = r .share;
-        readSharing = readSharingOf r (fileAt (ns .files) f);
-        action = Opened;
-        attributes = none;
-      }))
+  passed (opening r f stream (readSharingOf r (fileAt (ns .files) f)) Opened none granted)
 
 -- step 11, stream found, open or open-if
 unfoldable pub prepareOpen : Namespace → Request → FileNo → StreamNo → Checked Pending
 prepareOpen ns r f s = do
   granted ← grant ns r f (r .access)
-  passed
-      (existing
-      (record {
-        file = f;
-        stream = s;
-        granted = granted;
-        share = r .share;
-        readSharing = asOffered;
-        action = Opened;
-        attributes = none;
-      }))
+  passed (opening r f s asOffered Opened none granted)
 
 -- step 11, stream found, supersede, overwrite or overwrite-if. The file's attributes are looked at as they were; the
 -- access gains its bits before the access rule
@@ -145,21 +139,17 @@ hiddenOrSystem r f =
 unfoldable pub gained : Request → Bool → ℕ
 gained r unnamed = bitOr (cond unnamed 0x110 0) (cond (eqb (r .disposition) supersede) delete writeData)
 
+unfoldable pub replacing : Request → CreateAction
+replacing r = cond (eqb (r .disposition) supersede) Superseded Overwritten
+
+unfoldable pub replacement : Request → Bool → Option ℕ
+replacement r unnamed = cond unnamed (some (without (bitOr (r .attributes) archive) 0x2080)) none
+
 unfoldable pub prepareReplace : Namespace → Request → FileNo → StreamNo → Bool → Checked Pending
 prepareReplace ns r f s unnamed = do
   refuseIf (unnamed && hiddenOrSystem r (fileAt (ns .files) f)) AccessDenied
   granted ← grant ns r f (bitOr (r .access) (gained r unnamed))
-  passed
-      (existing
-      (record {
-        file = f;
-        stream = s;
-        granted = granted;
-        share = r .share;
-        readSharing = asOffered;
-        action = cond (eqb (r .disposition) supersede) Superseded Overwritten;
-        attributes = cond unnamed (some (without (bitOr (r .attributes) archive) 0x2080)) none;
-      }))
+  passed (opening r f s asOffered (replacing r) (replacement r unnamed) granted)
 
 -- step 11, stream missing
 unfoldable pub prepareStream : Namespace → Request → FileNo → List ℕ → Checked Pending

@@ -1,0 +1,19 @@
+-- `access::access_rule` meets its contract: the code is the definition.
+use mathlib.Core.Path.{_∙_, ap}
+use borrow.Author.Needs.{needs}
+use Rattle.access.specs.Access.{accessFrom, accessRule}
+use Rattle.access.proofs.access_rule.Statement.{statement}
+use Rattle.access.proofs.access_rule.Tie as tie
+
+effective-requires : tie.Need-effective-requires
+effective-requires c κs = search needs
+
+access-from-requires : tie.Need-access-from-requires
+access-from-requires c κs = search needs
+
+returns : tie.Need-returns
+unfolding accessRule
+returns c = rw (← c .before .effective .ensures) (c .access-from .ensures)
+
+pub access-rule-spec : {M : Type 1} → statement M
+access-rule-spec = tie.close (tie.spec effective-requires access-from-requires returns)

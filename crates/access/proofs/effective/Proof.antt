@@ -1,0 +1,41 @@
+-- `access::effective` meets its contract: each way through the two tests is one case of the definition.
+use mathlib.Core.Path.{_≡_, refl, sym, _∙_, ap}
+use mathlib.Core.Bool.{true, false}
+use mathlib.Core.Logic.{⊎-elim}
+use borrow.Author.Needs.{needs}
+use Rattle.bits.specs.Bits.{without}
+use Rattle.access.specs.Access.{effective}
+use Rattle.access.proofs.effective.Statement.{statement}
+use Rattle.access.proofs.effective.Tie as tie
+
+mask-of-requires : tie.Need-mask-of-requires
+mask-of-requires c κs = search needs
+
+is-data-requires : tie.Need-is-data-requires
+is-data-requires c κs = search needs
+
+has-requires : tie.Need-has-requires
+has-requires c κs = search needs
+
+without-requires : tie.Need-without-requires
+without-requires c κs = search needs
+
+returns : tie.Need-returns
+unfolding effective
+returns c =
+    let h = c .before .before in
+    let d = h .before .before in
+    rw (← d .is-data .ensures, h .before .if1 .taken, ← h .has .ensures, c .before .if2 .taken, ← d .before .mask-of .ensures) (c .without .ensures)
+
+returns-2 : tie.Need-returns-2
+unfolding effective
+returns-2 c =
+    let d = c .before in
+    ⊎-elim
+    (λ w. rw (← d .is-data .ensures, w .0 .taken, ← w .1 .ensures, w .2 .left) (d .before .mask-of .ensures))
+    (λ w. rw (← d .is-data .ensures, w .left) (d .before .mask-of .ensures)) (c .if1 .came)
+
+pub effective-spec : {M : Type 1} → statement M
+effective-spec =
+    tie.close
+    (tie.spec mask-of-requires is-data-requires has-requires without-requires returns returns-2)

@@ -1,0 +1,15 @@
+-- `access::need` meets its contract: the code is the definition.
+use borrow.Author.Needs.{needs}
+use Rattle.access.specs.Access.{need}
+use Rattle.access.proofs.need.Statement.{statement}
+use Rattle.access.proofs.need.Tie as tie
+
+without-requires : tie.Need-without-requires
+without-requires c κs = search needs
+
+returns : tie.Need-returns
+unfolding need
+returns c = c .without .ensures
+
+pub need-spec : {M : Type 1} → statement M
+need-spec = tie.close (tie.spec without-requires returns)

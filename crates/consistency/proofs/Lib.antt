@@ -1,0 +1,11 @@
+pub mod Conjunctions
+pub mod Slots
+pub mod Numbered
+pub mod Files
+pub mod Parents
+pub mod Links
+pub mod Streams
+pub mod Opens
+pub mod Counts
+pub mod Equivalence
+pub mod Derived

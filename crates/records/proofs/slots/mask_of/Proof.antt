@@ -1,0 +1,30 @@
+-- `records::slots::mask_of` meets its contract: an account past the last is past the masks' end, where the definition
+-- says 0.
+use mathlib.Core.Path.{refl, sym}
+use native.Mathlib.Omega.{arith}
+use lib.ListN.{List·getD-eq-default}
+use borrow.Author.Needs.{needs}
+use Rattle.records.proofs.Lengths.{masks-length}
+use Rattle.records.specs.Slots.{maskOf}
+use Rattle.records.proofs.slots.mask_of.Statement.{statement}
+use Rattle.records.proofs.slots.mask_of.Tie as tie
+
+mul-result : tie.Need-mul-result
+mul-result c = search needs
+
+element-copy-out-result : tie.Need-element-copy-out-result
+element-copy-out-result c = search needs
+
+returns : tie.Need-returns
+unfolding maskOf
+returns c = refl
+
+returns-2 : tie.Need-returns-2
+unfolding maskOf
+returns-2 c =
+    let f = c .before .args .t1 in
+    let h = masks-length f _ (c .before .good .0) in
+    sym (List·getD-eq-default (f .masks) 0 (omega arith))
+
+pub mask-of-spec : {M : Type 1} → statement M
+mask-of-spec = tie.close (tie.spec mul-result element-copy-out-result returns returns-2)

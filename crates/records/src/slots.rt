@@ -1,0 +1,138 @@
+// The records of a free slot, which are all zero, and the tests of a used one.
+use crate::File;
+use crate::FileNo;
+use crate::FileType;
+use crate::Handle;
+use crate::Link;
+use crate::Open;
+use crate::ShareCounts;
+use crate::Stream;
+use crate::StreamNo;
+ghost use mathlib.Core.Path.{_≡_};
+ghost use Rattle.records.specs.Slots.{zeroFile, zeroLink, zeroCounts, zeroStream, zeroOpen};
+ghost use Rattle.records.specs.Slots.{isUsed, isDirectory, isData, fileUsed, linkUsed, streamUsed, openUsed, maskOf};
+
+pub fn zero_file() -> File
+    ensures { λ r. ⌜ r ≡ zeroFile ⌝ }
+{
+    File {
+        file_type: FileType::Unused,
+        attributes: 0,
+        masks: [0; 8],
+    }
+}
+
+pub fn zero_link() -> Link
+    ensures { λ r. ⌜ r ≡ zeroLink ⌝ }
+{
+    Link {
+        parent: FileNo(0),
+        name: [0; 32],
+        file: FileNo(0),
+    }
+}
+
+pub fn zero_counts() -> ShareCounts
+    ensures { λ r. ⌜ r ≡ zeroCounts ⌝ }
+{
+    ShareCounts {
+        opens: 0,
+        readers: 0,
+        writers: 0,
+        deleters: 0,
+        shared_read: 0,
+        shared_write: 0,
+        shared_delete: 0,
+    }
+}
+
+pub fn zero_stream() -> Stream
+    ensures { λ r. ⌜ r ≡ zeroStream ⌝ }
+{
+    Stream {
+        file: FileNo(0),
+        stream_type: FileType::Unused,
+        name: [0; 32],
+        counts: zero_counts(),
+    }
+}
+
+pub fn zero_open() -> Open
+    ensures { λ r. ⌜ r ≡ zeroOpen ⌝ }
+{
+    Open {
+        handle: Handle(0),
+        file: FileNo(0),
+        stream: StreamNo(0),
+        granted: 0,
+        share: 0,
+    }
+}
+
+pub fn is_used(t: FileType) -> bool
+    ensures { λ r. ⌜ r ≡ isUsed t ⌝ }
+{
+    match t {
+        FileType::Unused => false,
+        FileType::Data => true,
+        FileType::Directory => true,
+    }
+}
+
+pub fn is_directory(t: FileType) -> bool
+    ensures { λ r. ⌜ r ≡ isDirectory t ⌝ }
+{
+    match t {
+        FileType::Unused => false,
+        FileType::Data => false,
+        FileType::Directory => true,
+    }
+}
+
+pub fn is_data(t: FileType) -> bool
+    ensures { λ r. ⌜ r ≡ isData t ⌝ }
+{
+    match t {
+        FileType::Unused => false,
+        FileType::Data => true,
+        FileType::Directory => false,
+    }
+}
+
+pub fn file_used(f: File) -> bool
+    ensures { λ r. ⌜ r ≡ fileUsed f ⌝ }
+{
+    let t = f.file_type;
+    is_used(t)
+}
+
+pub fn link_used(l: Link) -> bool
+    ensures { λ r. ⌜ r ≡ linkUsed l ⌝ }
+{
+    l.name[0] != 0
+}
+
+pub fn stream_used(s: Stream) -> bool
+    ensures { λ r. ⌜ r ≡ streamUsed s ⌝ }
+{
+    let t = s.stream_type;
+    is_used(t)
+}
+
+pub fn open_used(o: Open) -> bool
+    ensures { λ r. ⌜ r ≡ openUsed o ⌝ }
+{
+    o.handle.0 != 0
+}
+
+// The account's access mask on a file; an account past the last has none.
+pub fn mask_of(f: File, account: u32) -> u32
+    ensures { λ r. ⌜ r ≡ maskOf f account ⌝ }
+{
+    if account < 8 {
+        let i = account as usize;
+        f.masks[i]
+    } else {
+        0
+    }
+}

@@ -1,0 +1,3 @@
+pub mod PairRule
+pub mod Counts
+pub mod Check

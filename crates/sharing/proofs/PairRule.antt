@@ -1,0 +1,51 @@
+-- Which opens are counted; the pair rule doesn't depend on the order of the two opens, and an uncounted one conflicts
+-- with none.
+use Prim.Native.Nat.{ℕ}
+use mathlib.Core.Path.{_≡_, refl, sym, _∙_, ap, ap₂}
+use mathlib.Core.Bool.{Bool, true, false, not, _&&_, _||_}
+use Rattle.lists.proofs.Tests.{or-left, or-right}
+use Rattle.records.specs.declared.Open.{Open}
+use Rattle.sharing.specs.Sharing.{Kind, reading, writing, deleting, anyKind, holds, shares, counted, conflict, conflicting}
+
+-- two tests that agree on each kind
+pub any-kind-same : (p q : Kind → Bool) → ((k : Kind) → p k ≡ q k) → anyKind p ≡ anyKind q
+unfolding anyKind
+any-kind-same p q h = rw (h reading, h writing, h deleting)
+
+-- an open is counted exactly where it holds a kind
+pub counted-holder : (k : Kind) (granted : ℕ) → holds k granted ≡ true → counted granted ≡ true
+unfolding counted anyKind
+counted-holder reading g h = or-left (holds deleting g) (or-left (holds writing g) h)
+counted-holder writing g h = or-left (holds deleting g) (or-right (holds reading g) h)
+counted-holder deleting g h = or-right (holds reading g || holds writing g) h
+
+pub uncounted-none : (granted : ℕ) → ((k : Kind) → holds k granted ≡ false) → counted granted ≡ false
+unfolding counted anyKind
+uncounted-none g h = rw (h reading, h writing, h deleting)
+
+or-swap : (a b : Bool) → (a || b) ≡ (b || a)
+or-swap true true = refl
+or-swap true false = refl
+or-swap false true = refl
+or-swap false false = refl
+
+and-swap : (a b : Bool) → (a && b) ≡ (b && a)
+and-swap true true = refl
+and-swap true false = refl
+and-swap false true = refl
+and-swap false false = refl
+
+pub conflict-sym : (g s g′ s′ : ℕ) → conflict g s g′ s′ ≡ conflict g′ s′ g s
+unfolding conflict
+conflict-sym g s g′ s′ =
+    ap₂ (λ (a b : Bool). a && b) (and-swap (counted g) (counted g′))
+    (any-kind-same _ _ (λ k. or-swap (holds k g && not (shares k s′)) (holds k g′ && not (shares k s))))
+
+pub conflicting-sym : (o o′ : Open) → conflicting o o′ ≡ conflicting o′ o
+unfolding conflicting
+conflicting-sym o o′ = conflict-sym (o .granted) (o .share) (o′ .granted) (o′ .share)
+
+-- an uncounted open conflicts with none
+pub conflict-uncounted : (g s g′ s′ : ℕ) → counted g ≡ false → conflict g s g′ s′ ≡ false
+unfolding conflict
+conflict-uncounted g s g′ s′ h = rw h
