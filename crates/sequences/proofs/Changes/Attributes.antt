@@ -1,29 +1,23 @@
 -- New attributes of a data file: consistent names stay so.
 use Prim.Native.Nat.{ℕ, _<_}
 use mathlib.Core.Path.{_≡_, refl, sym, _∙_, ap}
-use mathlib.Core.Bool.{Bool, true, false, true≢false}
-use mathlib.Core.List.{List, []}
-use mathlib.Core.Option.{Option, none, some}
-use mathlib.Core.Logic.{_≢_, ⊎-elim}
+use mathlib.Core.Bool.{true, true≢false}
+use mathlib.Core.List.{List}
+use mathlib.Core.Option.{none, some}
+use mathlib.Core.Logic.{_≢_}
 use native.Mathlib.Decide.{ℕ-discrete}
 use lib.ListN.{length, set}
-use Rattle.bits.specs.Bits.{within, has}
 use Rattle.lists.specs.Lists.{writes}
-use Rattle.lists.proofs.Slots.{slot-below}
-use Rattle.records.specs.Slots.{root, zeroFile, isUsed, isData, isDirectory, fileUsed, fileAt}
+use Rattle.records.specs.Slots.{root, isUsed, isDirectory, fileUsed, fileAt}
 use Rattle.records.specs.Namespace.{Namespace}
-use Rattle.records.specs.declared.FileType.the-variants.{Data}
 use Rattle.records.specs.declared.FileNo.{FileNo}
 use Rattle.records.specs.declared.File.{File}
+use Rattle.consistency.proofs.Slots.{same-file}
+use Rattle.consistency.proofs.Numbered.{file-in}
 use Rattle.store.specs.Complete.{changed, withAttributes, attributeChange}
 use Rattle.sequences.proofs.Facts.{NamesConsistent, AttributesFit}
-use Rattle.sequences.proofs.Changes.Types.{SameType, same-number, is-data, links-kept, streams-kept}
+use Rattle.sequences.proofs.Changes.Types.{SameType, is-data, links-kept, streams-kept}
 use Rattle.sequences.proofs.Changes.Files.{FileSound, file-at-new, file-at-other, files-with}
-
--- a used file stands below the table's end
-pub file-below : (fs : List File) (f : FileNo) → fileUsed (fileAt fs f) ≡ true → f .0 < length fs
-unfolding fileAt fileUsed isUsed
-file-below fs f u = slot-below fileUsed zeroFile refl fs (f .0) u
 
 -- a file written anew with its type
 module _ (fs : List File) (f : FileNo) (file : File) (below : f .0 < length fs) where
@@ -32,7 +26,7 @@ module _ (fs : List File) (f : FileNo) (file : File) (below : f .0 < length fs) 
     where
       go : Dec (g .0 ≡ f .0) → SameType fs (set fs (f .0) file) g
       go (yes q) =
-          rw (same-number g f q) (ap (λ (x : File). x .«file_type») (file-at-new fs f file below) ∙ e)
+          rw (same-file g f q) (ap (λ (x : File). x .«file_type») (file-at-new fs f file below) ∙ e)
       go (no q) = ap (λ (x : File). x .«file_type») (file-at-other fs f file below g q)
 
 module _ (ns : Namespace) (f : FileNo) (a : ℕ) (h : NamesConsistent ns) (fit : AttributesFit ns f a) where
@@ -50,7 +44,7 @@ module _ (ns : Namespace) (f : FileNo) (a : ℕ) (h : NamesConsistent ns) (fit :
 
   below : f .0 < length (ns .files)
   unfolding withAttributes fileUsed
-  below = file-below (ns .files) f (sound .used)
+  below = file-in (ns .files) f (sound .used)
 
   -- the root is a directory
   not-root : f .0 ≢ 0
@@ -58,7 +52,7 @@ module _ (ns : Namespace) (f : FileNo) (a : ℕ) (h : NamesConsistent ns) (fit :
   not-root e =
       true≢false
       (sym (h .files .rootDirectory)
-      ∙ ap (λ (g : FileNo). isDirectory (fileAt (ns .files) g .«file_type»)) (sym (same-number f root e))
+      ∙ ap (λ (g : FileNo). isDirectory (fileAt (ns .files) g .«file_type»)) (sym (same-file f root e))
       ∙ ap isDirectory (is-data _ (fit .dataFile)))
 
   pub attributes-kept : NamesConsistent (changed (attributeChange ns f (some a)) ns)

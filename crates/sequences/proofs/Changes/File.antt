@@ -1,22 +1,20 @@
 -- A file that a directory gains: its placing leaves consistent names.
-use Prim.Native.Nat.{ℕ, suc, _≤_, _<_}
+use Prim.Native.Nat.{ℕ, suc, _≤_}
 use mathlib.Core.Path.{_≡_, refl, sym, _∙_, ap, subst}
-use mathlib.Core.Bool.{Bool, true, false, cond, not}
+use mathlib.Core.Bool.{Bool, true, false}
 use mathlib.Core.List.{List, [], _∷_}
 use mathlib.Core.Logic.{_≢_}
 use native.Mathlib.Omega.{arith}
-use lib.Dec.{eqb}
-use lib.ListN.{getD, set}
+use lib.ListN.{set}
 use borrow.Author.Tests.{ne-eqb}
 use Rattle.lists.specs.Lists.{all, isEmpty, padded, writes}
-use Rattle.lists.proofs.Tests.{not-both, not-is, cond-true, cond-false, empty-is}
+use Rattle.lists.proofs.Tests.{not-both, not-is, cond-true, cond-false}
 use Rattle.lists.proofs.Slots.{FreeSlot, refuted, free-stays}
 use Rattle.records.specs.Sizes.{fileNameLimit, streamNameLimit}
-use Rattle.records.specs.Slots.{root, zeroFile, zeroLink, isUsed, isDirectory, fileUsed, linkUsed, fileAt, linkAt}
+use Rattle.records.specs.Slots.{root, zeroFile, zeroLink, isDirectory, fileUsed, linkUsed, fileAt}
 use Rattle.records.specs.Namespace.{Namespace, BareStream, zeroBare, bareUsed, bareAt}
-use Rattle.records.specs.Checked.{Checked, passed, _>>=_}
+use Rattle.records.specs.Checked.{passed}
 use Rattle.records.proofs.Checked.{passed-same, bind-passed}
-use Rattle.records.specs.declared.FileType.{FileType}
 use Rattle.records.specs.declared.FileNo.{FileNo}
 use Rattle.records.specs.declared.LinkNo.{LinkNo}
 use Rattle.records.specs.declared.StreamNo.{StreamNo}
@@ -25,16 +23,16 @@ use Rattle.records.specs.declared.Link.{Link}
 use Rattle.names.specs.Names.{units, validFileName}
 use Rattle.names.proofs.Padded.{file-name-units, units-padded, padded-stored, padded-begins}
 use Rattle.consistency.specs.Consistent.{StreamsConsistent}
+use Rattle.consistency.proofs.Numbered.{directory-file}
 use Rattle.store.specs.Prepare.{newFile}
 use Rattle.store.specs.Complete.{Placed, changed, streamNew, freeFile, freeLink, freeStream, placeFile, placeStreams, place}
 use Rattle.sequences.proofs.Facts.{NamesConsistent, FileFits, StreamsKept, PlacedWell}
-use Rattle.sequences.proofs.Changes.Types.{directory-used}
 use Rattle.sequences.proofs.Changes.Files.{FileAdded, file-at-new, file-at-other, files-with, not-added, used-kept}
 use Rattle.sequences.proofs.Changes.Free.{file-free, link-free, stream-free}
 use Rattle.sequences.proofs.Changes.Relations.{link-name-new}
 use Rattle.sequences.proofs.Changes.Links.{LinkSound, links-with}
 use Rattle.sequences.proofs.Changes.Streams.{streams-with, stream-every, stream-kept, stream-there, kept-both}
-use Rattle.sequences.proofs.Changes.NewStream.{StreamMade, made-used, named-sound, no-stream, unnamed-sound}
+use Rattle.sequences.proofs.Changes.NewStream.{StreamMade, named-sound, no-stream, unnamed-sound}
 
 -- the link of a new file
 abbrev linkNew : FileNo → List ℕ → FileNo → Link
@@ -78,8 +76,7 @@ module _ (ns : Namespace) (dir : FileNo) (name stream : List ℕ) (file : File) 
             }
 
         not-root : f .0 ≢ 0
-        unfolding fileUsed
-        not-root e = not-added added root (directory-used _ (h .files .rootDirectory)) (sym e)
+        not-root e = not-added added root (directory-file (ns .files) root (h .files .rootDirectory)) (sym e)
 
         agrees : file .«file_type» ≡ fileAt (grown ns f file) f .«file_type»
         agrees = ap (λ (x : File). x .«file_type») (sym there)

@@ -1,7 +1,7 @@
 -- A file written at a number other than the root's: the files stay consistent. And files with one added.
-use Prim.Native.Nat.{ℕ, _<_}
-use mathlib.Core.Path.{_≡_, refl, sym, _∙_, ap}
-use mathlib.Core.Bool.{Bool, true, false, true≢false}
+use Prim.Native.Nat.{_<_}
+use mathlib.Core.Path.{_≡_, sym, _∙_, ap}
+use mathlib.Core.Bool.{true, false}
 use mathlib.Core.List.{List}
 use mathlib.Core.Logic.{_≢_}
 use lib.ListN.{length, set, length-set}
@@ -15,7 +15,7 @@ use Rattle.records.specs.declared.FileNo.{FileNo}
 use Rattle.records.specs.declared.File.{File}
 use Rattle.consistency.specs.Relations.{validMasks}
 use Rattle.consistency.specs.Consistent.{FilesConsistent}
-use Rattle.sequences.proofs.Changes.Types.{same-number}
+use Rattle.consistency.proofs.Slots.{same-file}
 
 -- a file that may be stored
 pub record FileSound (file : File) : Type 0 where
@@ -66,7 +66,7 @@ pub record FileAdded (fs gs : List File) (n : FileNo) : Type 0 where
 module _ {fs gs : List File} {n : FileNo} (added : FileAdded fs gs n) where
   pub not-added : (f : FileNo) → fileUsed (fileAt fs f) ≡ true → f .0 ≢ n .0
   not-added f u e =
-      not-both u (ap (λ (g : FileNo). fileUsed (fileAt fs g)) (same-number f n e) ∙ added .wasFree)
+      not-both u (ap (λ (g : FileNo). fileUsed (fileAt fs g)) (same-file f n e) ∙ added .wasFree)
 
   -- a used file stays as it is
   pub used-kept : (f : FileNo) → fileUsed (fileAt fs f) ≡ true → fileAt gs f ≡ fileAt fs f

@@ -10,7 +10,7 @@ use Rattle.lists.proofs.Find.{after-found}
 use Rattle.lists.proofs.Slots.{FreeSlot}
 use Rattle.records.specs.Slots.{zeroFile, zeroLink, fileUsed, linkUsed}
 use Rattle.records.specs.Namespace.{Namespace, zeroBare, bareUsed}
-use Rattle.records.specs.Checked.{Checked, passed, _>>=_}
+use Rattle.records.specs.Checked.{passed, _>>=_}
 use Rattle.records.proofs.Checked.{refused≢passed, passed-same, bind-passed}
 use Rattle.records.specs.declared.FileNo.{FileNo}
 use Rattle.records.specs.declared.LinkNo.{LinkNo}

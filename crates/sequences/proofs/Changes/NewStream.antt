@@ -16,12 +16,12 @@ use Rattle.records.specs.declared.FileType.{FileType}
 use Rattle.records.specs.declared.FileNo.{FileNo}
 use Rattle.records.specs.declared.StreamNo.{StreamNo}
 use Rattle.records.specs.declared.File.{File}
-use Rattle.names.specs.Names.{validStreamName, units, wellStored}
+use Rattle.names.specs.Names.{validStreamName, units}
 use Rattle.names.proofs.Padded.{stream-name-units, units-padded, padded-stored}
 use Rattle.consistency.specs.Relations.{streamOf, unnamedOf}
 use Rattle.consistency.specs.Consistent.{StreamsConsistent}
+use Rattle.consistency.proofs.Slots.{same-file}
 use Rattle.store.specs.Complete.{streamNew}
-use Rattle.sequences.proofs.Changes.Types.{same-number}
 use Rattle.sequences.proofs.Changes.Files.{FileAdded, not-added, used-before}
 use Rattle.sequences.proofs.Changes.Relations.{stream-used, stream-file, stream-of, unnamed-stream, unnamed-empty, unnamed-of}
 use Rattle.sequences.proofs.Changes.Streams.{StreamSound}
@@ -100,8 +100,8 @@ module _ (fs gs : List File) (ss : List BareStream) (n : FileNo) (type : FileTyp
             (count-none (p f) zeroBare ss
             (λ i q.
             let s = stream f _ q in
-            no-stream (record { 0 = i }) (stream-used f _ s) (stream-file f _ s ∙ same-number f n e)))
-            (ap (λ (g : FileNo). p g unnamed) (same-number f n e) ∙ own)
+            no-stream (record { 0 = i }) (stream-used f _ s) (stream-file f _ s ∙ same-file f n e)))
+            (ap (λ (g : FileNo). p g unnamed) (same-file f n e) ∙ own)
         go (no e) =
             one-before (before e)
             (refuted _ (λ q. e (ap (λ (g : FileNo). g .0) (sym (stream-file f unnamed (stream f unnamed q))))))

@@ -1,36 +1,33 @@
 -- What the tests on links and streams say, and that a name that nothing matches is new.
-use Prim.Native.Nat.{ℕ, _<_}
-use mathlib.Core.Path.{_≡_, refl, sym, _∙_, ap}
-use mathlib.Core.Bool.{Bool, true, false, _&&_}
+use Prim.Native.Nat.{ℕ}
+use mathlib.Core.Path.{_≡_, ap}
+use mathlib.Core.Bool.{Bool, true, false}
 use mathlib.Core.List.{List, []}
 use mathlib.Core.Logic.{_≢_}
 use lib.Dec.{eqb}
 use borrow.Author.Tests.{eqb-true, eq-eqb}
 use Rattle.lists.specs.Lists.{any, isEmpty}
 use Rattle.lists.proofs.Tests.{not-both, and-left, and-right, and-both, empty-is}
-use Rattle.lists.proofs.Slots.{any-fails, slot-below}
-use Rattle.records.specs.Slots.{zeroLink, isUsed, linkUsed, linkAt}
+use Rattle.lists.proofs.Slots.{any-fails}
+use Rattle.records.specs.Slots.{zeroLink, linkUsed, linkAt}
 use Rattle.records.specs.Namespace.{BareStream, zeroBare, bareUsed, bareAt}
 use Rattle.records.specs.declared.FileNo.{FileNo}
 use Rattle.records.specs.declared.LinkNo.{LinkNo}
 use Rattle.records.specs.declared.StreamNo.{StreamNo}
 use Rattle.records.specs.declared.Link.{Link}
-use Rattle.names.specs.Units.{equalUnits}
 use Rattle.names.specs.Names.{units}
 use Rattle.names.proofs.Padded.{equal-matches}
 use Rattle.lookup.specs.Lookup.{linkMatches, streamMatches}
 use Rattle.consistency.specs.Relations.{linkTo, streamOf, unnamedOf}
-use Rattle.sequences.proofs.Changes.Types.{same-number}
+use Rattle.consistency.proofs.Slots.{same-file}
+use Rattle.consistency.proofs.Links.{link-in}
+use Rattle.consistency.proofs.Streams.{stream-in}
 
 -- a link to a file
 module _ (f : FileNo) (x : Link) where
-  pub link-used : linkTo f x ≡ true → linkUsed x ≡ true
-  unfolding linkTo
-  link-used h = and-left (linkUsed x) (eqb (x .file .0) (f .0)) h
-
   pub link-file : linkTo f x ≡ true → x .file ≡ f
   unfolding linkTo
-  link-file h = same-number (x .file) f (eqb-true (x .file .0) (f .0) (and-right (linkUsed x) (eqb (x .file .0) (f .0)) h))
+  link-file h = same-file (x .file) f (eqb-true (x .file .0) (f .0) (and-right (linkUsed x) (eqb (x .file .0) (f .0)) h))
 
   pub link-to : linkUsed x ≡ true → x .file ≡ f → linkTo f x ≡ true
   unfolding linkTo
@@ -44,7 +41,7 @@ module _ (f : FileNo) (x : BareStream) where
 
   pub stream-file : streamOf f x ≡ true → x .file ≡ f
   unfolding streamOf
-  stream-file h = same-number (x .file) f (eqb-true (x .file .0) (f .0) (and-right (bareUsed x) (eqb (x .file .0) (f .0)) h))
+  stream-file h = same-file (x .file) f (eqb-true (x .file .0) (f .0) (and-right (bareUsed x) (eqb (x .file .0) (f .0)) h))
 
   pub stream-of : bareUsed x ≡ true → x .file ≡ f → streamOf f x ≡ true
   unfolding streamOf
@@ -66,19 +63,19 @@ module _ (f : FileNo) (x : BareStream) where
 module _ (fold : Bool) (f : FileNo) (name : List ℕ) where
   pub link-name-new : (ls : List Link) → any (linkMatches fold f name) ls ≡ false → (l : LinkNo) → linkUsed (linkAt ls l) ≡ true
       → linkAt ls l .parent ≡ f → units (linkAt ls l .name) ≢ name
-  unfolding linkAt linkMatches linkUsed
+  unfolding linkAt linkMatches
   link-name-new ls h l u p n =
       let x = linkAt ls l in
       not-both
       (and-both (eq-eqb (x .parent .0) (f .0) (ap (λ (g : FileNo). g .0) p)) (equal-matches fold (units (x .name)) name n))
-      (any-fails (linkMatches fold f name) zeroLink ls h (l .0) (slot-below linkUsed zeroLink refl ls (l .0) u))
+      (any-fails (linkMatches fold f name) zeroLink ls h (l .0) (link-in ls l u))
 
   pub stream-name-new : (ss : List BareStream) → any (streamMatches fold f name) ss ≡ false → (s : StreamNo)
       → bareUsed (bareAt ss s) ≡ true → bareAt ss s .file ≡ f → units (bareAt ss s .name) ≢ name
-  unfolding bareAt streamMatches bareUsed isUsed
+  unfolding bareAt streamMatches
   stream-name-new ss h s u p n =
       let x = bareAt ss s in
       not-both
       (and-both (and-both u (eq-eqb (x .file .0) (f .0) (ap (λ (g : FileNo). g .0) p)))
       (equal-matches fold (units (x .name)) name n))
-      (any-fails (streamMatches fold f name) zeroBare ss h (s .0) (slot-below bareUsed zeroBare refl ss (s .0) u))
+      (any-fails (streamMatches fold f name) zeroBare ss h (s .0) (stream-in ss s u))

@@ -1,9 +1,8 @@
 -- A stream that a data file gains: its placing leaves consistent names.
-use Prim.Native.Nat.{ℕ, _<_}
+use Prim.Native.Nat.{ℕ}
 use mathlib.Core.Path.{_≡_, refl, sym, _∙_, ap, subst}
-use mathlib.Core.Bool.{Bool, true, false}
+use mathlib.Core.Bool.{true, false}
 use mathlib.Core.List.{List, [], _∷_}
-use mathlib.Core.Option.{some}
 use native.Mathlib.Omega.{arith}
 use lib.ListN.{set}
 use Rattle.lists.specs.Lists.{isEmpty, writes}
@@ -18,11 +17,12 @@ use Rattle.records.specs.declared.FileNo.{FileNo}
 use Rattle.records.specs.declared.StreamNo.{StreamNo}
 use Rattle.records.specs.declared.File.{File}
 use Rattle.consistency.specs.Relations.{unnamedOf}
+use Rattle.consistency.proofs.Numbered.{file-in}
 use Rattle.store.specs.Prepare.{newStream}
 use Rattle.store.specs.Complete.{Placed, changed, attributeChange, withAttributes, streamNew, freeStream, place}
 use Rattle.sequences.proofs.Facts.{NamesConsistent, StreamFits, PlacedWell}
 use Rattle.sequences.proofs.Changes.Types.{is-data}
-use Rattle.sequences.proofs.Changes.Attributes.{attributes-kept, file-below, same-types}
+use Rattle.sequences.proofs.Changes.Attributes.{attributes-kept, same-types}
 use Rattle.sequences.proofs.Changes.Free.{stream-free}
 use Rattle.sequences.proofs.Changes.Relations.{stream-name-new, stream-used, stream-file, unnamed-stream, unnamed-empty}
 use Rattle.sequences.proofs.Changes.Streams.{streams-with, stream-kept, stream-there}
@@ -63,7 +63,7 @@ module _ (ns : Namespace) (f : FileNo) (a : ℕ) (name : List ℕ) (h : NamesCon
           used = refl;
           agrees =
               sym
-              (same-types (ns .files) f _ (file-below (ns .files) f is-used) refl f
+              (same-types (ns .files) f _ (file-in (ns .files) f is-used) refl f
               ∙ is-data _ (fit .attributes .dataFile));
           valid = fit .nameValid;
           nameNew = stream-name-new (fit .fold) f name (ns .streams) (fit .nameNew);

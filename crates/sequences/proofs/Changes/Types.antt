@@ -1,7 +1,6 @@
--- What a type says, and files that agree in type: links and streams ask a file for its type alone.
-use Prim.Native.Nat.{ℕ}
+-- Files that agree in type: links and streams ask a file for its type alone.
 use mathlib.Core.Path.{_≡_, refl, sym, _∙_, ap}
-use mathlib.Core.Bool.{Bool, true, false, false≢true, true≢false}
+use mathlib.Core.Bool.{true, false≢true}
 use mathlib.Core.List.{List}
 use Rattle.records.specs.Slots.{isUsed, isData, isDirectory, fileUsed, fileAt}
 use Rattle.records.specs.Namespace.{BareStream}
@@ -12,26 +11,11 @@ use Rattle.records.specs.declared.File.{File}
 use Rattle.records.specs.declared.Link.{Link}
 use Rattle.consistency.specs.Consistent.{LinksConsistent, StreamsConsistent}
 
-pub same-number : (f g : FileNo) → f .0 ≡ g .0 → f ≡ g
-same-number f g e = λ i. record { 0 = e i }
-
 pub is-data : (t : FileType) → isData t ≡ true → t ≡ Data
 unfolding isData
 is-data Unused h = absurd (false≢true h)
 is-data Data h = refl
 is-data Directory h = absurd (false≢true h)
-
-pub used-file : (t : FileType) → isUsed t ≡ true → isDirectory t ≡ false → t ≡ Data
-unfolding isUsed isDirectory
-used-file Unused h k = absurd (false≢true h)
-used-file Data h k = refl
-used-file Directory h k = absurd (true≢false k)
-
-pub directory-used : (t : FileType) → isDirectory t ≡ true → isUsed t ≡ true
-unfolding isUsed isDirectory
-directory-used Unused h = h
-directory-used Data h = refl
-directory-used Directory h = refl
 
 -- the tables have one type at the number
 abbrev pub SameType : List File → List File → FileNo → Type 0
