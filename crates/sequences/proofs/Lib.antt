@@ -7,4 +7,7 @@ pub mod Changes
 pub mod Opens
 pub mod Views
 pub mod Completed
+pub mod Statuses
 pub mod Steps
+pub mod Violation
+pub mod Sequence

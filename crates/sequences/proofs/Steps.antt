@@ -7,6 +7,7 @@ use mathlib.Core.Option.{Option, none, some}
 use mathlib.Core.Logic.{_⊎_, inl, inr, ⊎-elim}
 use lib.Bits.{bitOr}
 use lib.ListN.{length, getD, set, length-map}
+use borrow.Author.Tests.{not-true}
 use Rattle.lists.specs.Lists.{any, first, keep, Permutation, both, skip}
 use Rattle.lists.proofs.Tests.{and-left}
 use Rattle.lists.proofs.All.{any-of}
@@ -14,6 +15,7 @@ use Rattle.lists.proofs.Find.{Found, first-found, first-none}
 use Rattle.lists.proofs.Permutations.{perm-any, perm-sym}
 use Rattle.lists.proofs.PairsPerm.{none-too}
 use Rattle.records.specs.Constants.{shareRead}
+use Rattle.records.specs.Numbers.{statusNumber, outcomeNumbers}
 use Rattle.records.specs.Slots.{zeroOpen, openUsed}
 use Rattle.records.specs.Namespace.{Namespace, BareStream, bare, bareUsed, bareAt, namespace}
 use Rattle.records.specs.Checked.{Checked, refused, passed, _>>=_}
@@ -40,6 +42,7 @@ use Rattle.store.specs.Complete.{View, Change, changed, Decision, complete, dec
 use Rattle.store.specs.Store.{refusal, whenConsistent, storeView, changedVolume, rowsWithOpen, volumeWithOpen, openConcluded, openAnswer, hasHandle, volumeWithoutOpen, closeConcluded, closeAnswer, volumeMarked, setReadOnlyAnswer}
 use Rattle.store.specs.Model.{Model, Reply, Step, modelRefusal, modelView, modelOpened, modelOpen, modelClose, modelSetReadOnly}
 use Rattle.store.specs.Calls.{Call, opens, closes, setsReadOnly, Tables, answered, storeStep, modelStep}
+use Rattle.store.specs.Sequences.{isCorrupt, handleOf}
 use Rattle.sequences.proofs.Facts.{NamesConsistent, PendingFits, StreamsKept, Joins}
 use Rattle.sequences.proofs.Prepared.{prepared}
 use Rattle.sequences.proofs.Opens.Names.{used-below, with-open-names, without-open-names, changed-names}
@@ -50,15 +53,24 @@ use Rattle.sequences.proofs.Opens.Counts.{counts-joined, counts-changed
 use Rattle.sequences.proofs.Opens.Conflicts.{share-more}
 use Rattle.sequences.proofs.Opens.Close.{handle-live, closed-kept}
 use Rattle.sequences.proofs.Views.{Related, completed-alike, views-alike, conflicts-agree}
+use Rattle.sequences.proofs.Statuses.{other, spares, corrupt, spares-refusal, prepare-spares, complete-spares}
 use Rattle.sequences.proofs.Completed.{DecisionFits, Unopposed, completed}
 
--- two steps that answer alike and lead to related states
-pub record Together (s : Step Tables) (m : Step Model) : Type 0 where
-  pub sameReply : s .reply ≡ m .reply
-  pub relatedAfter : Related (s .state) (m .state)
+-- a step of the model from m issues the next handle, or none
+abbrev pub Issues : Model → Step Model → Type 0
+Issues m s =
+    (((hs : List ℕ) → handleOf (s .reply .outcome) hs ≡ hs) × (s .state .count ≡ m .count))
+    ⊎ (((hs : List ℕ) → handleOf (s .reply .outcome) hs ≡ suc (m .count) ∷ hs) × (s .state .count ≡ suc (m .count)))
+
+-- two steps, the model's from m, that answer alike and lead to related states
+pub record Together (m : Model) (s : Step Tables) (s′ : Step Model) : Type 0 where
+  pub sameReply : s .reply ≡ s′ .reply
+  pub relatedAfter : Related (s .state) (s′ .state)
+  pub neverCorrupt : isCorrupt (s′ .reply) ≡ false
+  pub issues : Issues m s′
 
 -- the groups that do not look at the opens, of related tables
-names-of : {v : Volume} {t : OpenTable} → Consistent v t → NamesConsistent (namespace v)
+pub names-of : {v : Volume} {t : OpenTable} → Consistent v t → NamesConsistent (namespace v)
 unfolding namespace
 names-of c = record { files = c .files; links = c .links; streams = c .streams }
 
@@ -80,6 +92,11 @@ none-on-stream : (s : StreamNo) (granted share : ℕ) (os : List Open) → any (
 unfolding anyConflict
 none-on-stream s granted share os h =
     none-too _ _ (λ q e. ap (λ (b : Bool). b && conflict (q .granted) (q .share) granted share) e) os h
+
+-- consistent tables answer as if there were no test
+pub when-consistent : (v : Volume) (t : OpenTable) → Consistent v t → (a : Answer) → whenConsistent v t a ≡ a
+unfolding whenConsistent
+when-consistent v t ok a = rw (consistent-complete v t ok, whenConsistent)
 
 -- an accepted open, decided by the model's view
 module _ {t : Tables} {m : Model} (related : Related t m) (d : Decision) (fits : DecisionFits (namespace (t .volume)) (modelView m) d)
@@ -136,51 +153,57 @@ module _ {t : Tables} {m : Model} (related : Related t m) (d : Decision) (fits :
         nextHandle = ap suc (related .nextHandle);
       }
 
--- an open, refused or accepted
-refused-together : {t : Tables} {m : Model} → Related t m → (s : Status) → Together (answered (refusal (t .volume) (t .opens) s)) (modelRefusal m s)
-unfolding answered refusal modelRefusal
-refused-together related s = record { sameReply = refl; relatedAfter = related }
+-- a refusal with another status than FILE_CORRUPT_ERROR leaves both as they were
+refused-together : {t : Tables} {m : Model} → Related t m → (s : Status) → other corrupt s ≡ true
+    → Together m (answered (refusal (t .volume) (t .opens) s)) (modelRefusal m s)
+unfolding answered refusal modelRefusal isCorrupt outcomeNumbers handleOf
+refused-together related s p =
+    record { sameReply = refl; relatedAfter = related; neverCorrupt = not-true _ p; issues = inl (λ hs. refl, refl) }
 
+-- an open, refused or accepted
 module _ {t : Tables} {m : Model} (related : Related t m) where
   decided-together : (p : Pending) → PendingFits (namespace (t .volume)) p → (c : Checked Decision) → complete (modelView m) (namespace (t .volume)) p ≡ c
-      → Together (answered (openConcluded (t .volume) (t .opens) c)) (modelOpened m c)
-  unfolding openConcluded modelOpened answered storeView
-  decided-together p fits (refused s) e = refused-together related s
+      → Together m (answered (openConcluded (t .volume) (t .opens) c)) (modelOpened m c)
+  unfolding openConcluded modelOpened answered storeView modelView isCorrupt outcomeNumbers handleOf
+  decided-together p fits (refused s) e =
+      refused-together related s (spares-refusal corrupt _ s (complete-spares (modelView m) (namespace (t .volume)) p) e)
   decided-together p fits (passed d) e =
       let f = completed (namespace (t .volume)) (modelView m) p d (names-of (related .consistentTables)) fits e in
-      record { sameReply = refl; relatedAfter = open-related related d f (views-alike related p fits .room ∙ f .room) }
+      record {
+        sameReply = refl;
+        relatedAfter = open-related related d f (views-alike related p fits .room ∙ f .room);
+        neverCorrupt = refl;
+        issues = inr (λ hs. ap {B = List ℕ} (λ n. n ∷ hs) (f .joins .handle), refl);
+      }
 
-  prepared-together : (c : Checked Pending) → ((p : Pending) → c ≡ passed p → PendingFits (namespace (t .volume)) p)
-      → Together (answered (openConcluded (t .volume) (t .opens) (c >>= complete (storeView (t .volume) (t .opens)) (namespace (t .volume)))))
+  prepared-together : (c : Checked Pending) → spares corrupt c ≡ true → ((p : Pending) → c ≡ passed p → PendingFits (namespace (t .volume)) p)
+      → Together m (answered (openConcluded (t .volume) (t .opens) (c >>= complete (storeView (t .volume) (t .opens)) (namespace (t .volume)))))
       (modelOpened m (c >>= complete (modelView m) (namespace (t .volume))))
   unfolding _>>=_ openConcluded modelOpened
-  prepared-together (refused s) fits = refused-together related s
-  prepared-together (passed p) fits =
+  prepared-together (refused s) h fits = refused-together related s (spares-refusal corrupt (refused s) s h refl)
+  prepared-together (passed p) h fits =
       let ns = namespace (t .volume) in
       let e = completed-alike (storeView (t .volume) (t .opens)) (modelView m) ns p (views-alike related p (fits p refl)) in
       subst
       (λ (c : Checked Decision).
-      Together (answered (openConcluded (t .volume) (t .opens) c)) (modelOpened m (complete (modelView m) ns p)))
+      Together m (answered (openConcluded (t .volume) (t .opens) c)) (modelOpened m (complete (modelView m) ns p)))
       (sym e) (decided-together p (fits p refl) (complete (modelView m) ns p) refl)
 
-  -- related tables are consistent, so the call is not told otherwise
-  when-consistent : (a : Answer) (s : Step Model) → Together (answered a) s → Together (answered (whenConsistent (t .volume) (t .opens) a)) s
-  unfolding whenConsistent
-  when-consistent a s h =
-      subst (λ (x : Answer). Together (answered x) s)
-      (sym (rw (consistent-complete (t .volume) (t .opens) (related .consistentTables), whenConsistent))) h
+  unhindered : (a : Answer) (s : Step Model) → Together m (answered a) s → Together m (answered (whenConsistent (t .volume) (t .opens) a)) s
+  unhindered a s h =
+      subst (λ (x : Answer). Together m (answered x) s) (sym (when-consistent (t .volume) (t .opens) (related .consistentTables) a)) h
 
-  open-together : (r : Request) (units : List ℕ) → Together (storeStep t (opens r units)) (modelStep m (opens r units))
+  open-together : (r : Request) (units : List ℕ) → Together m (storeStep t (opens r units)) (modelStep m (opens r units))
   unfolding storeStep modelStep openAnswer modelOpen decide
   open-together r units =
       let ns = namespace (t .volume) in
-      when-consistent _ _
+      unhindered _ _
       (subst
       (λ (n : Namespace).
-      Together (answered (openConcluded (t .volume) (t .opens) (decide (storeView (t .volume) (t .opens)) ns r units)))
+      Together m (answered (openConcluded (t .volume) (t .opens) (decide (storeView (t .volume) (t .opens)) ns r units)))
       (modelOpened m (decide (modelView m) n r units)))
       (related .sameNames)
-      (prepared-together (prepare ns r units) (λ p e. prepared ns r units p (names-of (related .consistentTables)) e)))
+      (prepared-together (prepare ns r units) (prepare-spares ns r units (names-of (related .consistentTables))) (λ p e. prepared ns r units p (names-of (related .consistentTables)) e)))
 
   -- the open of a handle leaves both
   closed-related : (h : Handle) (i : ℕ) → Found (hasHandle h) (t .opens .rows) zeroOpen 0 i
@@ -210,25 +233,25 @@ module _ {t : Tables} {m : Model} (related : Related t m) where
   same-handles : (h : Handle) → any (hasHandle h) (t .opens .rows) ≡ any (hasHandle h) (m .entries)
   same-handles h = sym (handle-live h (t .opens .rows)) ∙ perm-any (hasHandle h) (related .opensAreEntries)
 
-  close-together : (h : Handle) → Together (storeStep t (closes h)) (modelStep m (closes h))
-  unfolding storeStep modelStep closeAnswer modelClose closeConcluded answered
-  close-together h = when-consistent _ _ (go (first (hasHandle h) rows) refl)
+  close-together : (h : Handle) → Together m (storeStep t (closes h)) (modelStep m (closes h))
+  unfolding storeStep modelStep closeAnswer modelClose closeConcluded answered isCorrupt outcomeNumbers handleOf statusNumber
+  close-together h = unhindered _ _ (go (first (hasHandle h) rows) refl)
     where
       rows : List Open
       rows = t .opens .rows
 
-      go : (o : Option ℕ) → first (hasHandle h) rows ≡ o → Together (answered (closeConcluded (t .volume) (t .opens) o)) (modelClose m h)
-      go none e = rw (sym (same-handles h) ∙ first-none (hasHandle h) zeroOpen rows e, modelClose) (refused-together related InvalidHandle)
+      go : (o : Option ℕ) → first (hasHandle h) rows ≡ o → Together m (answered (closeConcluded (t .volume) (t .opens) o)) (modelClose m h)
+      go none e = rw (sym (same-handles h) ∙ first-none (hasHandle h) zeroOpen rows e, modelClose) (refused-together related InvalidHandle refl)
       go (some i) e =
           let f = first-found (hasHandle h) zeroOpen rows i e in
           rw (sym (same-handles h) ∙ any-of (hasHandle h) zeroOpen rows i (f .below) (f .passes), modelClose)
-          (record { sameReply = refl; relatedAfter = closed-related h i f })
+          (record { sameReply = refl; relatedAfter = closed-related h i f; neverCorrupt = refl; issues = inl (λ hs. refl, refl) })
 
-  mark-together : (b : Bool) → Together (storeStep t (setsReadOnly b)) (modelStep m (setsReadOnly b))
-  unfolding storeStep modelStep setReadOnlyAnswer modelSetReadOnly answered volumeMarked namespace
+  mark-together : (b : Bool) → Together m (storeStep t (setsReadOnly b)) (modelStep m (setsReadOnly b))
+  unfolding storeStep modelStep setReadOnlyAnswer modelSetReadOnly answered volumeMarked namespace isCorrupt outcomeNumbers handleOf
   mark-together b =
       let was = related .consistentTables in
-      when-consistent _ _
+      unhindered _ _
       (record {
         sameReply = refl;
         relatedAfter =
@@ -242,10 +265,12 @@ module _ {t : Tables} {m : Model} (related : Related t m) where
                   (related .sameNames);
               nextHandle = related .nextHandle;
             };
+        neverCorrupt = refl;
+        issues = inl (λ hs. refl, refl);
       })
 
 -- every call
-pub together : {t : Tables} {m : Model} → Related t m → (c : Call) → Together (storeStep t c) (modelStep m c)
+pub together : {t : Tables} {m : Model} → Related t m → (c : Call) → Together m (storeStep t c) (modelStep m c)
 together related (opens r units) = open-together related r units
 together related (closes h) = close-together related h
 together related (setsReadOnly b) = mark-together related b
