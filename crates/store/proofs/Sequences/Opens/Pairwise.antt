@@ -19,7 +19,7 @@ use Rattle.sharing.specs.Sharing.{conflicting}
 use Rattle.consistency.specs.Relations.{live}
 use Rattle.consistency.specs.Test.{handlesDiffer, opensAgree}
 use Rattle.consistency.specs.Consistent.{openAt, OpensConsistent}
-use Rattle.sequences.proofs.Opens.Table.{Apart, apart-sym, apart-at}
+use Rattle.store.proofs.Sequences.Opens.Table.{Apart, apart-sym, apart-at}
 
 -- Apart, by the tests of the audit
 apart : Open → Open → Bool

@@ -37,24 +37,24 @@ use Rattle.consistency.specs.Relations.{live}
 use Rattle.consistency.specs.Consistent.{Consistent, FilesConsistent, LinksConsistent, StreamsConsistent, OpensConsistent, CountsTrue, openAt}
 use Rattle.consistency.specs.Test.{consistent}
 use Rattle.consistency.proofs.Equivalence.{consistent-complete}
 use Rattle.store.specs.Prepare.{Pending, prepare}
 use Rattle.store.specs.Complete.{View, Change, changed, Decision, complete, decide}
 use Rattle.store.specs.Store.{refusal, whenConsistent, storeView, changedVolume, rowsWithOpen, volumeWithOpen, openConcluded, openAnswer, hasHandle, volumeWithoutOpen, closeConcluded, closeAnswer, volumeMarked, setReadOnlyAnswer}
 use Rattle.store.specs.Model.{Model, Reply, Step, modelRefusal, modelView, modelOpened, modelOpen, modelClose, modelSetReadOnly}
 use Rattle.store.specs.Calls.{Call, opens, closes, setsReadOnly, Tables, answered, storeStep, modelStep}
 use Rattle.store.specs.Sequences.{isCorrupt, handleOf}
-use Rattle.sequences.proofs.Facts.{NamesConsistent, PendingFits, StreamsKept, Joins}
-use Rattle.sequences.proofs.Prepared.{prepared}
-use Rattle.sequences.proofs.Opens.Names.{used-below, with-open-names, without-open-names, changed-names}
-use Rattle.sequences.proofs.Opens.Table.{opens-kept}
-use Rattle.sequences.proofs.Opens.Join.{joins-used, joined, joined-live}
-use Rattle.sequences.proofs.Opens.Leave.{left, left-live}
-use Rattle.sequences.proofs.Opens.Counts.{counts-joined, counts-changed-free, counts-left, free-unopened}
-use Rattle.sequences.proofs.Opens.Conflicts.{share-more}
-use Rattle.sequences.proofs.Opens.Close.{handle-live, closed-kept}
-use Rattle.sequences.proofs.Views.{Related, completed-alike, views-alike, conflicts-agree}
-use Rattle.sequences.proofs.Statuses.{other, spares, corrupt, spares-refusal, prepare-spares, complete-spares}
-use Rattle.sequences.proofs.Completed.{DecisionFits, Unopposed, completed}
+use Rattle.store.proofs.Sequences.Facts.{NamesConsistent, PendingFits, StreamsKept, Joins}
+use Rattle.store.proofs.Sequences.Prepared.{prepared}
+use Rattle.store.proofs.Sequences.Opens.Names.{used-below, with-open-names, without-open-names, changed-names}
+use Rattle.store.proofs.Sequences.Opens.Table.{opens-kept}
+use Rattle.store.proofs.Sequences.Opens.Join.{joins-used, joined, joined-live}
+use Rattle.store.proofs.Sequences.Opens.Leave.{left, left-live}
+use Rattle.store.proofs.Sequences.Opens.Counts.{counts-joined, counts-changed-free, counts-left, free-unopened}
+use Rattle.store.proofs.Sequences.Opens.Conflicts.{share-more}
+use Rattle.store.proofs.Sequences.Opens.Close.{handle-live, closed-kept}
+use Rattle.store.proofs.Sequences.Views.{Related, completed-alike, views-alike, conflicts-agree}
+use Rattle.store.proofs.Sequences.Statuses.{other, spares, corrupt, spares-refusal, prepare-spares, complete-spares}
+use Rattle.store.proofs.Sequences.Completed.{DecisionFits, Unopposed, completed}
 
 -- a step of the model from m issues the next handle, or none
 abbrev pub Issues : Model → Step Model → Type 0

@@ -35,13 +35,13 @@ use Rattle.names.specs.Names.{units, validStreamName}
 use Rattle.names.specs.Paths.{Leaf, Path, parsePath}
 use Rattle.names.proofs.Parsed.{LeafFits, parsed-leaf}
 use Rattle.lookup.specs.Lookup.{linkMatches, streamMatches, streamNumber, findStream, Place, found, missing, locate}
 use Rattle.store.specs.Request.{wantsDirectory, wantsFile, badParameters, badAccess, wantsBoth, writesVolume}
 use Rattle.store.specs.Prepare
 use Rattle.store.specs.Prepare.{Existing, newStream, newFile, Pending, existing, creating, opening, grant, grantedNew, newType, attributesNew, fileNew, prepareNew, wrongType, streamOr, prepareDirectory, prepareOpen, gained, replacement, prepareReplace, prepareStream, prepareData, prepareFound, prepareAt, streamName, hasColon, readSharingOf, prepare}
-use Rattle.sequences.proofs.Facts.{NamesConsistent, AttributesFit, StreamFits, FileFits, Grantable, ExistingFits, PendingFits}
-use Rattle.sequences.proofs.Located.{PlaceFits, located, directory-used}
-use Rattle.sequences.proofs.Granted.{granted-fits}
-use Rattle.sequences.proofs.Requested.{RequestFits, requested, granted-new, Attributes, replaced, archived, attributes-new}
+use Rattle.store.proofs.Sequences.Facts.{NamesConsistent, AttributesFit, StreamFits, FileFits, Grantable, ExistingFits, PendingFits}
+use Rattle.store.proofs.Sequences.Located.{PlaceFits, located, directory-used}
+use Rattle.store.proofs.Sequences.Granted.{granted-fits}
+use Rattle.store.proofs.Sequences.Requested.{RequestFits, requested, granted-new, Attributes, replaced, archived, attributes-new}
 
 -- a passed value that fits, from the value that was passed
 as-passed : (ns : Namespace) {q p : Pending} → passed q ≡ passed p → PendingFits ns q → PendingFits ns p

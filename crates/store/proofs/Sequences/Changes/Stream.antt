@@ -18,15 +18,15 @@ use Rattle.records.specs.declared.StreamNo.{StreamNo}
 use Rattle.records.specs.declared.File.{File}
 use Rattle.consistency.specs.Relations.{unnamedOf}
 use Rattle.consistency.proofs.Numbered.{file-in}
 use Rattle.store.specs.Prepare.{newStream}
 use Rattle.store.specs.Complete.{Placed, changed, attributeChange, withAttributes, streamNew, freeStream, place}
-use Rattle.sequences.proofs.Facts.{NamesConsistent, StreamFits, PlacedWell}
-use Rattle.sequences.proofs.Changes.Types.{is-data}
-use Rattle.sequences.proofs.Changes.Attributes.{attributes-kept, same-types}
-use Rattle.sequences.proofs.Changes.Free.{stream-free}
-use Rattle.sequences.proofs.Changes.Relations.{stream-name-new, stream-used, stream-file, unnamed-stream, unnamed-empty}
-use Rattle.sequences.proofs.Changes.Streams.{streams-with, stream-kept, stream-there}
-use Rattle.sequences.proofs.Changes.NewStream.{StreamMade, made-used, named-sound}
+use Rattle.store.proofs.Sequences.Facts.{NamesConsistent, StreamFits, PlacedWell}
+use Rattle.store.proofs.Sequences.Changes.Types.{is-data}
+use Rattle.store.proofs.Sequences.Changes.Attributes.{attributes-kept, same-types}
+use Rattle.store.proofs.Sequences.Changes.Free.{stream-free}
+use Rattle.store.proofs.Sequences.Changes.Relations.{stream-name-new, stream-used, stream-file, unnamed-stream, unnamed-empty}
+use Rattle.store.proofs.Sequences.Changes.Streams.{streams-with, stream-kept, stream-there}
+use Rattle.store.proofs.Sequences.Changes.NewStream.{StreamMade, made-used, named-sound}
 
 module _ (ns : Namespace) (f : FileNo) (a : ℕ) (name : List ℕ) (h : NamesConsistent ns) (fit : StreamFits ns f a name) where
   is-used : fileUsed (fileAt (ns .files) f) ≡ true

@@ -2,11 +2,11 @@
 use mathlib.Core.Path.{_≡_}
 use Rattle.records.specs.Namespace.{Namespace}
 use Rattle.records.specs.Checked.{passed}
 use Rattle.store.specs.Prepare.{Creation, newStream, newFile}
 use Rattle.store.specs.Complete.{Placed, place}
-use Rattle.sequences.proofs.Facts.{NamesConsistent, CreationFits, PlacedWell}
-use Rattle.sequences.proofs.Changes.Stream.{stream-placed}
-use Rattle.sequences.proofs.Changes.File.{file-placed}
+use Rattle.store.proofs.Sequences.Facts.{NamesConsistent, CreationFits, PlacedWell}
+use Rattle.store.proofs.Sequences.Changes.Stream.{stream-placed}
+use Rattle.store.proofs.Sequences.Changes.File.{file-placed}
 
 pub placed-well : (ns : Namespace) → NamesConsistent ns → (c : Creation) → CreationFits ns c → (p : Placed)
     → place ns c ≡ passed p → PlacedWell ns p

@@ -26,12 +26,12 @@ use Rattle.sharing.proofs.Check.{share-check-right}
 use Rattle.consistency.specs.Relations.{live}
 use Rattle.consistency.specs.Consistent.{Consistent, CountsTrue}
 use Rattle.consistency.proofs.Derived.{stream-below}
 use Rattle.store.specs.Prepare.{Existing, Pending, existing, creating}
 use Rattle.store.specs.Complete.{View, Placed, Decision, decided, shareOf, place, nextHandle, attributeChange, complete}
 use Rattle.store.specs.Store.{anyOnFile, storeView}
 use Rattle.store.specs.Model.{Model, modelView}
 use Rattle.store.specs.Calls.{Tables}
-use Rattle.sequences.proofs.Facts.{ExistingFits, PendingFits}
+use Rattle.store.proofs.Sequences.Facts.{ExistingFits, PendingFits}
 
 -- tables and a model that hold the same
 pub record Related (t : Tables) (m : Model) : Type 0 where

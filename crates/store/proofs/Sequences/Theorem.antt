@@ -27,13 +27,13 @@ use Rattle.consistency.specs.Relations.{validMasks, live}
 use Rattle.consistency.specs.Consistent.{Consistent, openAt}
 use Rattle.format.specs.Format.{rightLengths, checkedMasks, formatAnswer, format, freshVolume, freshOpens}
 use Rattle.format.proofs.Fresh.{fresh-consistent}
 use Rattle.store.specs.Model.{Model, Reply, Step, modelFormatted, modelFormat}
 use Rattle.store.specs.Calls.{Call, Tables, answered, Run, run, storeStep, modelStep}
 use Rattle.store.specs.Sequences.{isCorrupt, handleOf, issued, numbersFrom, Agree, EverySequence}
-use Rattle.sequences.proofs.Opens.Pairwise.{perm-apart}
-use Rattle.sequences.proofs.Views.{Related}
-use Rattle.sequences.proofs.Violation.{share-right, violation}
-use Rattle.sequences.proofs.Steps.{Issues, Together, together}
+use Rattle.store.proofs.Sequences.Opens.Pairwise.{perm-apart}
+use Rattle.store.proofs.Sequences.Views.{Related}
+use Rattle.store.proofs.Sequences.Violation.{share-right, violation}
+use Rattle.store.proofs.Sequences.Steps.{Issues, Together, together}
 
 refused≢done : {s : Status} → Refused s ≡ Done → ⊥
 refused≢done e = let z : _≡_ {A = ℕ} 0 1 = cc in omega arith

@@ -25,7 +25,7 @@ use Rattle.names.specs.Names.{units, validFileName}
 use Rattle.names.specs.Paths.{Leaf, Path}
 use Rattle.names.proofs.Parsed.{LeafFits}
 use Rattle.lookup.specs.Lookup.{linkMatches, linkNumber, findLink, stepInto, descend, Place, found, missing, placeOf, locateLeaf, locate}
-use Rattle.sequences.proofs.Facts.{NamesConsistent}
+use Rattle.store.proofs.Sequences.Facts.{NamesConsistent}
 
 abbrev pub PlaceFits : Namespace → Bool → Option Leaf → Place → Type 0
 PlaceFits ns fold leaf (found f) = fileUsed (fileAt (ns .files) f) ≡ true

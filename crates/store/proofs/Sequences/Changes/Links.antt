@@ -23,9 +23,9 @@ use Rattle.consistency.specs.Consistent.{LinksConsistent}
 use Rattle.consistency.proofs.Slots.{same-file}
 use Rattle.consistency.proofs.Numbered.{directory-file}
 use Rattle.consistency.proofs.Parents.{link-to-used, parent-link, parent-none, parent-used}
-use Rattle.sequences.proofs.Changes.Files.{FileAdded, not-added, used-kept, used-before}
-use Rattle.sequences.proofs.Changes.Relations.{link-file, link-to}
-use Rattle.sequences.proofs.Changes.Parents.{parent-set, climb-same}
+use Rattle.store.proofs.Sequences.Changes.Files.{FileAdded, not-added, used-kept, used-before}
+use Rattle.store.proofs.Sequences.Changes.Relations.{link-file, link-to}
+use Rattle.store.proofs.Sequences.Changes.Parents.{parent-set, climb-same}
 
 -- a link that the files and links may gain
 pub record LinkSound (fs : List File) (ls : List Link) (k : Link) : Type 0 where

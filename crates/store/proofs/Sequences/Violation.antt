@@ -21,16 +21,16 @@ use Rattle.records.specs.declared.Answer.{Answer}
 use Rattle.records.proofs.Checked.{test-refuses, test-passes, bind-of}
 use Rattle.sharing.specs.Sharing.{anyConflict, shareCheck}
 use Rattle.consistency.specs.Consistent.{Consistent}
 use Rattle.store.specs.Prepare.{Existing, existing, prepare}
 use Rattle.store.specs.Complete.{View, Decision, complete, decide}
 use Rattle.store.specs.Store.{refusal, whenConsistent, storeView, openConcluded, openAnswer}
 use Rattle.store.specs.Model.{Model}
 use Rattle.store.specs.Calls.{Tables}
-use Rattle.sequences.proofs.Prepared.{prepared}
-use Rattle.sequences.proofs.Opens.Names.{used-below}
-use Rattle.sequences.proofs.Views.{Related, conflicts-agree}
-use Rattle.sequences.proofs.Statuses.{other, spares, spares-refusal, spares-bind, spares-passed, share-spares, handle-spares}
-use Rattle.sequences.proofs.Steps.{names-of, when-consistent}
+use Rattle.store.proofs.Sequences.Prepared.{prepared}
+use Rattle.store.proofs.Sequences.Opens.Names.{used-below}
+use Rattle.store.proofs.Sequences.Views.{Related, conflicts-agree}
+use Rattle.store.proofs.Sequences.Statuses.{other, spares, spares-refusal, spares-bind, spares-passed, share-spares, handle-spares}
+use Rattle.store.proofs.Sequences.Steps.{names-of, when-consistent}
 
 -- only a refused decision is answered by a refusal
 concluded-refused : (v : Volume) (t : OpenTable) (c : Checked Decision) (s : Status) → openConcluded v t c .outcome ≡ Refused s → c ≡ refused s

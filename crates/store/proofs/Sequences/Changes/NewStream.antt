@@ -21,10 +21,10 @@ use Rattle.names.proofs.Padded.{stream-name-units, units-padded, padded-stored}
 use Rattle.consistency.specs.Relations.{streamOf, unnamedOf}
 use Rattle.consistency.specs.Consistent.{StreamsConsistent}
 use Rattle.consistency.proofs.Slots.{same-file}
 use Rattle.store.specs.Complete.{streamNew}
-use Rattle.sequences.proofs.Changes.Files.{FileAdded, not-added, used-before}
-use Rattle.sequences.proofs.Changes.Relations.{stream-used, stream-file, stream-of, unnamed-stream, unnamed-empty, unnamed-of}
-use Rattle.sequences.proofs.Changes.Streams.{StreamSound}
+use Rattle.store.proofs.Sequences.Changes.Files.{FileAdded, not-added, used-before}
+use Rattle.store.proofs.Sequences.Changes.Relations.{stream-used, stream-file, stream-of, unnamed-stream, unnamed-empty, unnamed-of}
+use Rattle.store.proofs.Sequences.Changes.Streams.{StreamSound}
 
 -- what a stream made for a file asks beside the counts
 pub record StreamMade (fs : List File) (ss : List BareStream) (f : FileNo) (type : FileType) (name : List ℕ) : Type 0 where

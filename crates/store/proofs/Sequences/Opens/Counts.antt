@@ -24,9 +24,9 @@ use Rattle.sharing.specs.Sharing.{onStream, countsOfAll, countsOf, withOpen, wi
 use Rattle.sharing.proofs.Counts.{counts-perm, counts-cons, counts-skip, counts-less}
 use Rattle.consistency.specs.Relations.{live}
 use Rattle.consistency.specs.Consistent.{openAt, OpensConsistent, CountsTrue}
 use Rattle.store.specs.Store.{freshStream, recount, rowsWithOpen}
-use Rattle.sequences.proofs.Opens.Join.{joined-live}
-use Rattle.sequences.proofs.Opens.Leave.{left-live}
+use Rattle.store.proofs.Sequences.Opens.Join.{joined-live}
+use Rattle.store.proofs.Sequences.Opens.Leave.{left-live}
 
 pub length-recount : (f : ShareCounts → ShareCounts) (s : StreamNo) (ss : List Stream) → length (recount f s ss) ≡ length ss
 unfolding recount

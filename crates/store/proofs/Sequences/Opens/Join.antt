@@ -20,9 +20,9 @@ use Rattle.sharing.specs.Sharing.{conflict, conflicting, onStream, anyConflict}
 use Rattle.sharing.proofs.PairRule.{conflicting-sym}
 use Rattle.consistency.specs.Relations.{live}
 use Rattle.consistency.specs.Consistent.{openAt, OpensConsistent}
 use Rattle.store.specs.Store.{rowsWithOpenAt, rowsWithOpen}
-use Rattle.sequences.proofs.Facts.{Joins}
-use Rattle.sequences.proofs.Opens.Table.{Stands, Apart, replaced}
+use Rattle.store.proofs.Sequences.Facts.{Joins}
+use Rattle.store.proofs.Sequences.Opens.Table.{Stands, Apart, replaced}
 
 -- the slot that an open takes
 pub record Taken (o : Open) (os : List Open) : Type 0 where

@@ -14,7 +14,7 @@ use Rattle.records.specs.declared.Open.{Open}
 use Rattle.sharing.specs.Sharing.{conflicting}
 use Rattle.sharing.proofs.PairRule.{conflicting-sym}
 use Rattle.consistency.specs.Consistent.{openAt, OpensConsistent}
-use Rattle.sequences.proofs.Facts.{Grantable, StreamsKept}
+use Rattle.store.proofs.Sequences.Facts.{Grantable, StreamsKept}
 
 -- used streams are as they were: so are the opens on them
 pub opens-kept : {ss ss′ : List BareStream} {next : ℕ} {os : List Open} → OpensConsistent ss next os → StreamsKept ss ss′

@@ -20,8 +20,8 @@ use Rattle.records.specs.declared.File.{File}
 use Rattle.names.specs.Names.{validStreamName, units, wellStored}
 use Rattle.consistency.specs.Relations.{streamOf, unnamedOf}
 use Rattle.consistency.specs.Consistent.{StreamsConsistent}
-use Rattle.sequences.proofs.Facts.{StreamsKept}
-use Rattle.sequences.proofs.Changes.Types.{SameType, used-same}
+use Rattle.store.proofs.Sequences.Facts.{StreamsKept}
+use Rattle.store.proofs.Sequences.Changes.Types.{SameType, used-same}
 
 -- a stream that the files and streams may gain
 pub record StreamSound (fs : List File) (ss : List BareStream) (b : BareStream) : Type 0 where

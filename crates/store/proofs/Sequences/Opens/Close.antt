@@ -19,8 +19,8 @@ use Rattle.records.specs.declared.Handle.{Handle}
 use Rattle.records.specs.declared.Open.{Open}
 use Rattle.consistency.specs.Relations.{live}
 use Rattle.consistency.specs.Consistent.{openAt, OpensConsistent}
 use Rattle.store.specs.Store.{hasHandle}
-use Rattle.sequences.proofs.Opens.Pairwise.{perm-apart}
+use Rattle.store.proofs.Sequences.Opens.Pairwise.{perm-apart}
 
 pub handle-live : (h : Handle) (os : List Open) → any (hasHandle h) (live os) ≡ any (hasHandle h) os
 unfolding live hasHandle

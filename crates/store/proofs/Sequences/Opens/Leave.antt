@@ -12,7 +12,7 @@ use Rattle.records.specs.Namespace.{BareStream}
 use Rattle.records.specs.declared.Open.{Open}
 use Rattle.consistency.specs.Relations.{live}
 use Rattle.consistency.specs.Consistent.{openAt, OpensConsistent}
-use Rattle.sequences.proofs.Opens.Table.{replaced}
+use Rattle.store.proofs.Sequences.Opens.Table.{replaced}
 
 pub left : {ss : List BareStream} {next : ℕ} {os : List Open} → OpensConsistent ss next os → (i : ℕ)
     → OpensConsistent ss next (set os i zeroOpen)

@@ -33,11 +33,11 @@ use Rattle.access.specs.Access.{accessRule, checkedAccess}
 use Rattle.access.specs.declared.Access.{Access}
 use Rattle.access.specs.declared.Access.the-variants.{Granted, Denied}
 use Rattle.consistency.specs.Relations.{streamOf, unnamedOf}
 use Rattle.store.specs.Request.{wantsDirectory, wantsFile}
 use Rattle.store.specs.Prepare.{ReadSharing, asOffered, addedIfAlone, deniedIfAlone, Creation, newStream, newFile, Pending, existing, creating, grant, prepareNew, wrongType, streamOr, prepareDirectory, prepareOpen, prepareReplace, prepareStream, prepareData, prepareFound, streamName, hasColon, prepareAt, prepare}
 use Rattle.store.specs.Complete.{View, Placed, shareOf, slotOr, freeFile, freeLink, freeStream, placeStreams, place, nextHandle, complete}
-use Rattle.sequences.proofs.Facts.{NamesConsistent}
-use Rattle.sequences.proofs.Located.{PlaceFits, located}
+use Rattle.store.proofs.Sequences.Facts.{NamesConsistent}
+use Rattle.store.proofs.Sequences.Located.{PlaceFits, located}
 
 -- a status with another number than n; a chain that does not refuse with n
 abbrev pub other : ℕ → Status → Bool

@@ -14,10 +14,10 @@ use Rattle.records.specs.declared.FileNo.{FileNo}
 use Rattle.records.specs.declared.File.{File}
 use Rattle.consistency.proofs.Slots.{same-file}
 use Rattle.consistency.proofs.Numbered.{file-in}
 use Rattle.store.specs.Complete.{changed, withAttributes, attributeChange}
-use Rattle.sequences.proofs.Facts.{NamesConsistent, AttributesFit}
-use Rattle.sequences.proofs.Changes.Types.{SameType, is-data, links-kept, streams-kept}
-use Rattle.sequences.proofs.Changes.Files.{FileSound, file-at-new, file-at-other, files-with}
+use Rattle.store.proofs.Sequences.Facts.{NamesConsistent, AttributesFit}
+use Rattle.store.proofs.Sequences.Changes.Types.{SameType, is-data, links-kept, streams-kept}
+use Rattle.store.proofs.Sequences.Changes.Files.{FileSound, file-at-new, file-at-other, files-with}
 
 -- a file written anew with its type
 module _ (fs : List File) (f : FileNo) (file : File) (below : f .0 < length fs) where

@@ -27,12 +27,12 @@ use Rattle.records.specs.declared.LinkNo.{LinkNo}
 use Rattle.records.specs.declared.Link.{Link}
 use Rattle.records.specs.declared.Open.{Open}
 use Rattle.records.proofs.Checked.{refused≢passed, passed-same, bind-passed, then-passed, test-passed}
 use Rattle.store.specs.Prepare
 use Rattle.store.specs.Prepare.{ReadSharing, asOffered, addedIfAlone, deniedIfAlone, Existing, Creation, newStream, newFile, Pending, existing, creating}
 use Rattle.store.specs.Complete.{View, Change, changed, Decision, decided, shareOf, slotOr, freeStream, Placed, placeFile, placeStreams, place, nextHandle, attributeChange, complete}
-use Rattle.sequences.proofs.Facts.{NamesConsistent, AttributesFit, CreationFits, Grantable, ExistingFits, PendingFits, StreamsKept, PlacedWell, Joins}
-use Rattle.sequences.proofs.Changes.Attributes.{attributes-kept}
-use Rattle.sequences.proofs.Changes.Placed.{placed-well}
+use Rattle.store.proofs.Sequences.Facts.{NamesConsistent, AttributesFit, CreationFits, Grantable, ExistingFits, PendingFits, StreamsKept, PlacedWell, Joins}
+use Rattle.store.proofs.Sequences.Changes.Attributes.{attributes-kept}
+use Rattle.store.proofs.Sequences.Changes.Placed.{placed-well}
 
 -- the streams that a change writes were free
 abbrev pub WrittenFree : Namespace → Change → Type 0

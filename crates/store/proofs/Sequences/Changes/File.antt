@@ -24,15 +24,15 @@ use Rattle.names.specs.Names.{units, validFileName}
 use Rattle.names.proofs.Padded.{file-name-units, units-padded, padded-stored, padded-begins}
 use Rattle.consistency.specs.Consistent.{StreamsConsistent}
 use Rattle.consistency.proofs.Numbered.{directory-file}
 use Rattle.store.specs.Prepare.{newFile}
 use Rattle.store.specs.Complete.{Placed, changed, streamNew, freeFile, freeLink, freeStream, placeFile, placeStreams, place}
-use Rattle.sequences.proofs.Facts.{NamesConsistent, FileFits, StreamsKept, PlacedWell}
-use Rattle.sequences.proofs.Changes.Files.{FileAdded, file-at-new, file-at-other, files-with, not-added, used-kept}
-use Rattle.sequences.proofs.Changes.Free.{file-free, link-free, stream-free}
-use Rattle.sequences.proofs.Changes.Relations.{link-name-new}
-use Rattle.sequences.proofs.Changes.Links.{LinkSound, links-with}
-use Rattle.sequences.proofs.Changes.Streams.{streams-with, stream-every, stream-kept, stream-there, kept-both}
-use Rattle.sequences.proofs.Changes.NewStream.{StreamMade, named-sound, no-stream, unnamed-sound}
+use Rattle.store.proofs.Sequences.Facts.{NamesConsistent, FileFits, StreamsKept, PlacedWell}
+use Rattle.store.proofs.Sequences.Changes.Files.{FileAdded, file-at-new, file-at-other, files-with, not-added, used-kept}
+use Rattle.store.proofs.Sequences.Changes.Free.{file-free, link-free, stream-free}
+use Rattle.store.proofs.Sequences.Changes.Relations.{link-name-new}
+use Rattle.store.proofs.Sequences.Changes.Links.{LinkSound, links-with}
+use Rattle.store.proofs.Sequences.Changes.Streams.{streams-with, stream-every, stream-kept, stream-there, kept-both}
+use Rattle.store.proofs.Sequences.Changes.NewStream.{StreamMade, named-sound, no-stream, unnamed-sound}
 
 -- the link of a new file
 abbrev linkNew : FileNo → List ℕ → FileNo → Link
