@@ -42,7 +42,9 @@ module _ (s : StreamNo) (rows : List Open) where
     row = getD rows (n - 1) d
 
     before-rows : drop (n - 1) rows ≡ row ∷ drop n rows
-    before-rows = drop-cons rows (n - 1) d (omega arith) ∙ ap (λ (m : ℕ). row ∷ drop m rows) (let e : suc (n - 1) ≡ n = omega arith in e)
+    before-rows =
+        let e : suc (n - 1) ≡ n = omega arith in
+        drop-cons rows (n - 1) d (omega arith) ∙ ap (λ (m : ℕ). row ∷ drop m rows) e
 
     -- a row that is used and on the stream is one open more
     pub row-counted : (limit : ℕ) → length rows < limit → openUsed row ≡ true → onStream s row ≡ true

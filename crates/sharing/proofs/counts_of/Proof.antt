@@ -76,7 +76,8 @@ loop-again-2 c =
 returns : tie.Need-returns Inv-loop μ-loop
 returns c =
     let a = c .before .before .before .args in
-    c .before .loop .inv .1 ∙ ap (countsFrom (a .s) (a .t1 .rows)) (let e : c .before .loop .i ≡ 0 = omega arith in e) ∙ from-start (a .s) (a .t1 .rows)
+    let done : c .before .loop .i ≡ 0 = omega arith in
+    c .before .loop .inv .1 ∙ ap (countsFrom (a .s) (a .t1 .rows)) done ∙ from-start (a .s) (a .t1 .rows)
 
 pub counts-of-spec : {M : Type 1} → statement M
 counts-of-spec =
