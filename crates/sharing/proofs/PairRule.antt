@@ -1,7 +1,7 @@
 -- Which opens are counted; the pair rule doesn't depend on the order of the two opens, and an uncounted one conflicts
 -- with none.
 use Prim.Native.Nat.{ℕ}
-use mathlib.Core.Path.{_≡_, refl, sym, _∙_, ap, ap₂}
+use mathlib.Core.Path.{_≡_, refl, ap₂}
 use mathlib.Core.Bool.{Bool, true, false, not, _&&_, _||_}
 use Rattle.lists.proofs.Tests.{or-left, or-right}
 use Rattle.records.specs.declared.Open.{Open}

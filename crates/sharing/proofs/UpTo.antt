@@ -9,7 +9,7 @@ use lib.ListN.{length}
 use Rattle.records.specs.declared.StreamNo.{StreamNo}
 use Rattle.records.specs.declared.Open.{Open}
 use Rattle.records.specs.declared.ShareCounts.{ShareCounts}
-use Rattle.sharing.specs.Sharing.{Kind, counted, isHolder, isSharer, holders, sharers, countsOf, changedBy, withOpen}
+use Rattle.sharing.specs.Sharing.{counted, isHolder, isSharer, holders, sharers, countsOf, changedBy, withOpen}
 use Rattle.sharing.specs.Saturating.{plusUpTo, withOpenUpTo}
 use Rattle.sharing.proofs.Counts.{AtMost, same-counts, opens-changed, holders-changed, sharers-changed, counts-bound}
 
