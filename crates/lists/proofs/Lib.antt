@@ -13,3 +13,4 @@ pub mod Permutations
 pub mod PairsPerm
 pub mod Pigeonhole
 pub mod Writes
+pub mod Scan

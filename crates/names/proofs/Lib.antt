@@ -1,2 +1,5 @@
 pub mod Parsed
 pub mod Padded
+pub mod Compare
+pub mod NameUnits
+pub mod ValidNames
