@@ -39,7 +39,8 @@ use Rattle.store.specs.Request.{wantsDirectory, wantsFile, badParameters
 use Rattle.store.specs.Prepare
 use Rattle.store.specs.Prepare.{Existing, newStream, newFile, Pending, existing, creating, opening, grant, grantedNew, newType, attributesNew, fileNew, prepareNew, wrongType, streamOr, prepareDirectory, prepareOpen, gained, replacement, prepareReplace, prepareStream, prepareData, prepareFound, prepareAt, streamName, hasColon, readSharingOf, prepare}
 use Rattle.store.proofs.Sequences.Facts.{NamesConsistent, AttributesFit, StreamFits, FileFits, Grantable, ExistingFits, PendingFits}
-use Rattle.store.proofs.Sequences.Located.{PlaceFits, located, directory-used}
+use Rattle.consistency.proofs.Slots.{directory-used}
+use Rattle.store.proofs.Sequences.Located.{PlaceFits, located}
 use Rattle.store.proofs.Sequences.Granted.{granted-fits}
 use Rattle.store.proofs.Sequences.Requested.{RequestFits, requested, granted-new, Attributes, replaced, archived, attributes-new}
 
