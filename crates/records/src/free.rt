@@ -44,7 +44,8 @@ pub fn free_file(v: Volume) -> FileSlot
     while i < FILE_SLOTS {
         let f = v.files[i];
         if !file_used(f) {
-            return FileSlot::At(FileNo(i as u16));
+            let n = i as u16;
+            return FileSlot::At(FileNo(n));
         }
         i += 1;
     }
@@ -58,7 +59,8 @@ pub fn free_link(v: Volume) -> LinkSlot
     while i < LINK_SLOTS {
         let l = v.links[i];
         if !link_used(l) {
-            return LinkSlot::At(LinkNo(i as u16));
+            let n = i as u16;
+            return LinkSlot::At(LinkNo(n));
         }
         i += 1;
     }
@@ -73,7 +75,8 @@ pub fn free_stream(v: Volume, from: usize) -> StreamSlot
     while i < STREAM_SLOTS {
         let s = v.streams[i];
         if !stream_used(s) {
-            return StreamSlot::At(StreamNo(i as u16));
+            let n = i as u16;
+            return StreamSlot::At(StreamNo(n));
         }
         i += 1;
     }

@@ -30,8 +30,8 @@ element-copy-out-f c = search needs
 file-used-requires : tie.Need-file-used-requires Inv-loop μ-loop
 file-used-requires c κs = search needs
 
-cast-t11 : tie.Need-cast-t11 Inv-loop μ-loop
-cast-t11 c = search needs
+cast-n : tie.Need-cast-n Inv-loop μ-loop
+cast-n c = search needs
 
 returns : tie.Need-returns Inv-loop μ-loop
 unfolding fileSlot
@@ -74,7 +74,7 @@ free-file-spec =
     mul-f
     element-copy-out-f
     file-used-requires
-    cast-t11
+    cast-n
     returns
     add-i
     loop-less

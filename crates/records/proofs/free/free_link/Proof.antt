@@ -30,8 +30,8 @@ element-copy-out-l c = search needs
 link-used-requires : tie.Need-link-used-requires Inv-loop μ-loop
 link-used-requires c κs = search needs
 
-cast-t11 : tie.Need-cast-t11 Inv-loop μ-loop
-cast-t11 c = search needs
+cast-n : tie.Need-cast-n Inv-loop μ-loop
+cast-n c = search needs
 
 returns : tie.Need-returns Inv-loop μ-loop
 unfolding linkSlot
@@ -74,7 +74,7 @@ free-link-spec =
     mul-l
     element-copy-out-l
     link-used-requires
-    cast-t11
+    cast-n
     returns
     add-i
     loop-less

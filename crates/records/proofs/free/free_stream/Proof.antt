@@ -30,8 +30,8 @@ element-copy-out-s c = search needs
 stream-used-requires : tie.Need-stream-used-requires Inv-loop μ-loop
 stream-used-requires c κs = search needs
 
-cast-t12 : tie.Need-cast-t12 Inv-loop μ-loop
-cast-t12 c = search needs
+cast-n : tie.Need-cast-n Inv-loop μ-loop
+cast-n c = search needs
 
 returns : tie.Need-returns Inv-loop μ-loop
 unfolding streamSlot
@@ -74,7 +74,7 @@ free-stream-spec =
     mul-s
     element-copy-out-s
     stream-used-requires
-    cast-t12
+    cast-n
     returns
     add-i
     loop-less
