@@ -39,36 +39,42 @@ split-more sign us h =
     let m = leading (noSign sign) us in
     split-first sign us ∙ ap (λ (l : List ℕ). take m us ∷ splitRest sign l) (drop-cons us m 0 h)
 
-module _ (sign : ℕ) (path : List ℕ) (s e k : ℕ) (found : k ≡ placeOf sign (take e path) s) where
+-- from s up to e, where the code searched the units before e and found the sign, or the end, at k
+module _ (sign : ℕ) (path : List ℕ) (s e k : ℕ) {units : List ℕ} (before : units ≡ take e path) (found : k ≡ placeOf sign units s) where
   count : ℕ
   count = leading (noSign sign) (slice s e path)
 
   place : k ≡ s + count
   unfolding count placeOf
-  place = found
+  place = found ∙ ap (λ (l : List ℕ). s + leading (noSign sign) (drop s l)) before
+
+  size : length (slice s e path) ≡ length units - s
+  size = length-drop s (take e path) ∙ ap (λ (l : List ℕ). length l - s) (sym before)
 
   first-part : take count (slice s e path) ≡ slice s k path
   unfolding count
-  first-part = slice-take s e count path (leading-le (noSign sign) (slice s e path)) ∙ ap (λ (n : ℕ). slice s n path) (sym place)
+  first-part =
+      slice-take s e count path (leading-le (noSign sign) (slice s e path))
+      ∙ ap (λ (n : ℕ). slice s n path) (sym place)
 
-  pub split-last : length (take e path) ≤ k → split sign (slice s e path) ≡ slice s k path ∷ []
+  split-last : length units ≤ k → split sign (slice s e path) ≡ slice s k path ∷ []
   unfolding count
   split-last h =
-      let whole : length (slice s e path) ≤ count = omega (arith, place, length-drop s (take e path)) in
+      let whole : length (slice s e path) ≤ count = omega (arith, place, size) in
       split-one sign (slice s e path) whole
       ∙ ap (λ (l : List ℕ). l ∷ []) (sym (take-all count (slice s e path) whole) ∙ first-part)
 
-  pub part-some : (s ≡ k → ⊥) → isEmpty (slice s k path) ≡ false
-  unfolding count
-  part-some ne = rw (← first-part) (not-empty (noSign sign) (slice s e path) (λ z. ne (omega (arith, place))))
-
-  pub split-found : k < length (take e path) → split sign (slice s e path) ≡ slice s k path ∷ split sign (slice (k + 1) e path)
+  split-found : k < length units → split sign (slice s e path) ≡ slice s k path ∷ split sign (slice (k + 1) e path)
   unfolding count
   split-found h =
       let rest : s + suc count ≡ k + 1 = omega (arith, place) in
-      split-more sign (slice s e path) (omega (arith, place, length-drop s (take e path)))
+      split-more sign (slice s e path) (omega (arith, place, size))
       ∙ ap (λ (l : List ℕ). l ∷ split sign (drop (suc count) (slice s e path))) first-part
       ∙ ap (λ (l : List ℕ). slice s k path ∷ split sign l) (slice-drop s e (suc count) path ∙ ap (λ (n : ℕ). slice n e path) rest)
+
+  part-some : (s ≡ k → ⊥) → isEmpty (slice s k path) ≡ false
+  unfolding count
+  part-some ne = rw (← first-part) (not-empty (noSign sign) (slice s e path) (λ z. ne (omega (arith, place))))
 
 and-true : (a b : Bool) → (a && b) ≡ true → (a ≡ true) × (b ≡ true)
 and-true true b h = (refl, h)
@@ -111,21 +117,27 @@ leaf-type f s t = go (ltb (leading (noSign colon) t) (length t)) refl
 
 -- the last component by the colons found
 
-module _ (path : List ℕ) (s e k : ℕ) (found : k ≡ placeOf colon (take e path) s) where
-  pub leaf-file : length (take e path) ≤ k → leafOf (split colon (slice s e path)) ≡ some (record { file = slice s k path; stream = []; colon = false })
+module _ (path : List ℕ) (s e k : ℕ) {units : List ℕ} (before : units ≡ take e path) (found : k ≡ placeOf colon units s) where
+  pub leaf-file : length units ≤ k → leafOf (split colon (slice s e path)) ≡ some (record { file = slice s k path; stream = []; colon = false })
   unfolding leafOf
-  leaf-file h = rw (split-last colon path s e k found h)
+  leaf-file h = rw (split-last colon path s e k before found h)
 
-  pub leaf-more : k < length (take e path) → leafOf (split colon (slice s e path)) ≡ leafOf (slice s k path ∷ split colon (slice (k + 1) e path))
-  leaf-more h = rw (split-found colon path s e k found h)
+  pub leaf-more : k < length units → leafOf (split colon (slice s e path)) ≡ leafOf (slice s k path ∷ split colon (slice (k + 1) e path))
+  leaf-more h = ap leafOf (split-found colon path s e k before found h)
 
-  pub stream-type : (f : List ℕ) (b : Bool) → k < length (take e path) → equalUnits true (slice (k + 1) e path) dataType ≡ b → leafOf (f ∷ split colon (slice s e path)) ≡ cond b (some (record { file = f; stream = slice s k path; colon = true })) none
-  stream-type f b h typed = ap (λ (l : List (List ℕ)). leafOf (f ∷ l)) (split-found colon path s e k found h) ∙ rw (← typed) (leaf-type f (slice s k path) (slice (k + 1) e path))
+  pub stream-type : (f : List ℕ) (b : Bool) {type : List ℕ} → type ≡ slice (k + 1) e path → k < length units → equalUnits true type dataType ≡ b → leafOf (f ∷ split colon (slice s e path)) ≡ cond b (some (record { file = f; stream = slice s k path; colon = true })) none
+  stream-type f b part h typed =
+      ap (λ (l : List (List ℕ)). leafOf (f ∷ l)) (split-found colon path s e k before found h)
+      ∙ rw (← typed, part) (leaf-type f (slice s k path) (slice (k + 1) e path))
 
-  pub stream-empty : (f : List ℕ) → length (take e path) ≤ k → s ≡ k → leafOf (f ∷ split colon (slice s e path)) ≡ none
+  pub stream-empty : (f : List ℕ) → length units ≤ k → s ≡ k → leafOf (f ∷ split colon (slice s e path)) ≡ none
   unfolding leafOf isEmpty
-  stream-empty f h same = ap (λ (l : List (List ℕ)). leafOf (f ∷ l)) (split-last colon path s e k found h) ∙ rw (same, slice-empty k path)
+  stream-empty f h same =
+      ap (λ (l : List (List ℕ)). leafOf (f ∷ l)) (split-last colon path s e k before found h)
+      ∙ rw (same, slice-empty k path)
 
-  pub stream-only : (f : List ℕ) → length (take e path) ≤ k → (s ≡ k → ⊥) → leafOf (f ∷ split colon (slice s e path)) ≡ some (record { file = f; stream = slice s k path; colon = true })
+  pub stream-only : (f : List ℕ) → length units ≤ k → (s ≡ k → ⊥) → leafOf (f ∷ split colon (slice s e path)) ≡ some (record { file = f; stream = slice s k path; colon = true })
   unfolding leafOf
-  stream-only f h ne = ap (λ (l : List (List ℕ)). leafOf (f ∷ l)) (split-last colon path s e k found h) ∙ rw (part-some colon path s e k found ne)
+  stream-only f h ne =
+      ap (λ (l : List (List ℕ)). leafOf (f ∷ l)) (split-last colon path s e k before found h)
+      ∙ rw (part-some colon path s e k before found ne)
