@@ -1,3 +1,5 @@
 pub mod PairRule
 pub mod Counts
 pub mod Check
+pub mod UpTo
+pub mod Rows
