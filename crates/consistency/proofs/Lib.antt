@@ -9,3 +9,5 @@ pub mod Opens
 pub mod Counts
 pub mod Equivalence
 pub mod Derived
+pub mod OpensScan
+pub mod CountsScan

@@ -13,3 +13,5 @@ pub mod Permutations
 pub mod PairsPerm
 pub mod Pigeonhole
 pub mod Writes
+pub mod Scan
+pub mod Sweeps
