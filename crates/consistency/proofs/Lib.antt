@@ -11,3 +11,4 @@ pub mod Equivalence
 pub mod Derived
 pub mod OpensScan
 pub mod CountsScan
+pub mod StreamsScan

@@ -2,3 +2,4 @@
 // statements, proved equal; the audit runs the test.
 pub mod count_audit;
 pub mod open_audit;
+pub mod stream_audit;

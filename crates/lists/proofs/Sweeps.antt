@@ -4,13 +4,16 @@ use Prim.Native.Nat.{ℕ, suc, _+_, _≤_, _<_}
 use mathlib.Core.Path.{_≡_, refl, sym, _∙_, ap, ap₂}
 use mathlib.Core.Bool.{Bool, true, false, cond, _&&_}
 use mathlib.Core.List.{List, [], _∷_, map}
+use mathlib.Core.Logic.{_⊎_, ⊎-elim}
 use native.Mathlib.Numerals.{add-one}
 use native.Mathlib.Omega.{arith}
-use lib.ListN.{length, getD, drop, drop-of-length-le}
-use lib.Seq.{drop-cons}
+use lib.Dec.{eqb}
+use lib.ListN.{length, getD, drop, set, replicate, drop-of-length-le, getD-replicate}
+use lib.Seq.{drop-cons, getD-set-same, getD-set-other}
+use borrow.Author.Tests.{eq-eqb, ne-eqb, eqb-true, eqb-false}
 use Rattle.lists.specs.Lists.{all, allFrom, count, keep, pairs}
 use Rattle.lists.proofs.Keep.{keep-yes, keep-no}
-use Rattle.lists.proofs.Counting.{count-add}
+use Rattle.lists.proofs.Counting.{count-add, count-bound}
 
 module _ {A : Type 0} (xs : List A) (i : ℕ) (d : A) (below : i < length xs) where
   -- what is left at place i is the element there, and what is left at the next
@@ -132,3 +135,74 @@ module _ {A B : Type 0} (f : A → B) where
           → keep p (map f (x ∷ xs)) ≡ map f (keep (λ y. p (f y)) (x ∷ xs))
       go true e h = rw e (ap {B = List B} (λ r. f x ∷ r) h)
       go false e h = rw e h
+
+-- 1 for what passes
+abbrev pub ones : Bool → ℕ
+ones b = cond b 1 0
+
+-- counting by a key, in one pass: with the places from i on that pass, `cs` has for each key how many of the list pass
+module _ {A : Type 0} (key : A → ℕ) (p : A → Bool) (xs : List A) where
+  abbrev pub keyed : ℕ → A → Bool
+  keyed n x = eqb (key x) n && p x
+
+  abbrev pub Tally : ℕ → List ℕ → ℕ → Type 0
+  Tally size cs i = (n : ℕ) → n < size → getD cs n 0 + count (keyed n) (drop i xs) ≡ count (keyed n) xs
+
+  pub tally-start : (size : ℕ) → Tally size (replicate size 0) 0
+  tally-start size n b = omega (arith, getD-replicate {A = ℕ} size n 0 0 b)
+
+  module _ (size : ℕ) (cs : List ℕ) (i : ℕ) (tally : Tally size cs i) (n : ℕ) (b : n < size) where
+    pub tally-done : length xs ≤ i → getD cs n 0 ≡ count (keyed n) xs
+    tally-done past = omega (arith, tally n b, count-end xs i past (keyed n))
+
+    pub tally-fits : getD cs n 0 ≤ length xs
+    tally-fits = omega (arith, tally n b, count-bound (keyed n) xs)
+
+  module _ (size : ℕ) (cs : List ℕ) (i : ℕ) (d : A) (below : i < length xs) (tally : Tally size cs i) where
+    abbrev here : A
+    here = getD xs i d
+
+    not-here : (n : ℕ) → (n ≡ key here → ⊥) → ones (keyed n here) ≡ 0
+    not-here n e = rw (ne-eqb (key here) n (λ q. e (sym q)))
+
+    -- the place is counted at its key, if it passes
+    pub tally-adds : length cs ≡ size → key here < size → {more : ℕ} → more ≡ getD cs (key here) 0 + ones (p here)
+        → Tally size (set cs (key here) more) (i + 1)
+    tally-adds l k {more} e n b = go (eqb n (key here)) refl
+      where
+        at-key : n ≡ key here → ones (keyed n here) ≡ ones (p here)
+        at-key q = rw (eq-eqb (key here) n (sym q))
+
+        go : (t : Bool) → eqb n (key here) ≡ t
+            → getD (set cs (key here) more) n 0 + count (keyed n) (drop (i + 1) xs) ≡ count (keyed n) xs
+        go true q =
+            let r = eqb-true n (key here) q in
+            omega (
+              arith,
+              tally n b,
+              count-rest xs i d below (keyed n),
+              at-key r,
+              e,
+              ap (λ (m : ℕ). getD cs m 0) r,
+              ap (λ (m : ℕ). getD (set cs (key here) more) m 0) r,
+              getD-set-same cs (key here) more 0 (omega arith),
+            )
+        go false q =
+            let r = eqb-false n (key here) q in
+            omega
+            (arith, tally n b, count-rest xs i d below (keyed n), not-here n r, getD-set-other cs (key here) n more 0 r)
+
+    -- a place that fails, or whose key is past the end, is passed over
+    pub tally-skips : (p here ≡ false) ⊎ (size ≤ key here) → Tally size cs (i + 1)
+    tally-skips w n b =
+        omega (arith, tally n b, count-rest xs i d below (keyed n), ⊎-elim fails (λ e. not-here n (λ q. past q e)) w)
+      where
+        past : n ≡ key here → size ≤ key here → ⊥
+        past q e = omega arith
+
+        either : (t : Bool) → ones (t && false) ≡ 0
+        either true = refl
+        either false = refl
+
+        fails : p here ≡ false → ones (keyed n here) ≡ 0
+        fails e = rw e (either (eqb (key here) n))

@@ -1,2 +1,6 @@
 pub mod Parsed
 pub mod Padded
+pub mod Compare
+pub mod NameUnits
+pub mod ValidNames
+pub mod StoredUnits
