@@ -4,6 +4,7 @@ pub mod All
 pub mod Keep
 pub mod Pairs
 pub mod Find
+pub mod Scan
 pub mod First
 pub mod Set
 pub mod Default

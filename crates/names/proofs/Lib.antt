@@ -1,1 +1,4 @@
 pub mod Parsed
+pub mod Compare
+pub mod NameUnits
+pub mod ValidNames

@@ -1,2 +1,13 @@
-// Names and paths: how units compare, which names are valid, and how a path is taken apart (step 4 of an open). So far
-// only their definitions.
+// Names and paths: how units compare, which names are valid, how a stored name is read, and how a path is taken apart
+// (step 4 of an open).
+mod stored;
+mod units;
+mod valid;
+
+pub use stored::name_equals;
+pub use stored::name_length;
+pub use stored::same_names;
+pub use stored::well_stored;
+pub use units::equal_units;
+pub use valid::valid_file_name;
+pub use valid::valid_stream_name;

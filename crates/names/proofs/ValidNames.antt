@@ -1,0 +1,132 @@
+-- Laws of valid units and names, as the code tests them.
+use Prim.Native.Nat.{ℕ, _≤_, _<_}
+use mathlib.Core.Path.{_≡_, refl}
+use mathlib.Core.Bool.{Bool, true, false, not, _&&_, _||_}
+use mathlib.Core.List.{List, [], _∷_}
+use mathlib.Core.Logic.{_⊎_, inl, inr}
+use native.Mathlib.Omega.{arith}
+use lib.Dec.{eqb, leb}
+use lib.ListN.{length, getD}
+use borrow.Author.Tests.{le-leb, lt-leb, ne-eqb, eqb-true, eqb-false}
+use Rattle.lists.specs.Lists.{all, any, isEmpty, oneOf, same}
+use Rattle.lists.proofs.Scan.{same-lengths}
+use Rattle.names.specs.Units.{dot}
+use Rattle.names.specs.Names.{validUnit, validFileName, validStreamName}
+
+-- one unit
+
+-- the signs that stand in no name, but for `>` and `?`, which are neighbours and tested as a range
+abbrev pub Lone : ℕ → Type 0
+Lone u = (u ≡ 0x22) ⊎ (u ≡ 0x2A) ⊎ (u ≡ 0x2F) ⊎ (u ≡ 0x3A) ⊎ (u ≡ 0x3C) ⊎ (u ≡ 0x5C) ⊎ (u ≡ 0x7C)
+
+pub unit-low : (u : ℕ) → u < 0x20 → validUnit u ≡ false
+unfolding validUnit
+unit-low u h = rw (lt-leb 0x20 u h)
+
+at-sign : (u sign : ℕ) → validUnit sign ≡ false → u ≡ sign → validUnit u ≡ false
+at-sign u sign h e = rw e h
+
+pub unit-lone : (u : ℕ) → Lone u → validUnit u ≡ false
+unfolding validUnit oneOf any
+unit-lone u (inl e) = at-sign u 0x22 refl e
+unit-lone u (inr (inl e)) = at-sign u 0x2A refl e
+unit-lone u (inr (inr (inl e))) = at-sign u 0x2F refl e
+unit-lone u (inr (inr (inr (inl e)))) = at-sign u 0x3A refl e
+unit-lone u (inr (inr (inr (inr (inl e))))) = at-sign u 0x3C refl e
+unit-lone u (inr (inr (inr (inr (inr (inl e)))))) = at-sign u 0x5C refl e
+unit-lone u (inr (inr (inr (inr (inr (inr e)))))) = at-sign u 0x7C refl e
+
+pub unit-range : (u : ℕ) → 0x3E ≤ u → u < 0x40 → validUnit u ≡ false
+unfolding validUnit oneOf any
+unit-range u low high = go (eqb u 0x3E) refl
+  where
+    go : (b : Bool) → eqb u 0x3E ≡ b → validUnit u ≡ false
+    go true e = at-sign u 0x3E refl (eqb-true u 0x3E e)
+    go false e = at-sign u 0x3F refl (let ne : u ≡ 0x3E → ⊥ = eqb-false u 0x3E e in omega arith)
+
+pub unit-other : (u : ℕ) → 0x20 ≤ u → (Lone u → ⊥) → (u ≡ 0x3E → ⊥) → (u ≡ 0x3F → ⊥) → validUnit u ≡ true
+unfolding validUnit oneOf any
+unit-other u h ne ne1 ne2 =
+    rw (
+      le-leb 0x20 u h,
+      ne-eqb u 0x22 (λ e. ne (inl e)),
+      ne-eqb u 0x2A (λ e. ne (inr (inl e))),
+      ne-eqb u 0x2F (λ e. ne (inr (inr (inl e)))),
+      ne-eqb u 0x3A (λ e. ne (inr (inr (inr (inl e))))),
+      ne-eqb u 0x3C (λ e. ne (inr (inr (inr (inr (inl e)))))),
+      ne-eqb u 0x3E ne1,
+      ne-eqb u 0x3F ne2,
+      ne-eqb u 0x5C (λ e. ne (inr (inr (inr (inr (inr (inl e))))))),
+      ne-eqb u 0x7C (λ e. ne (inr (inr (inr (inr (inr (inr e))))))),
+    )
+
+-- `.` and `..`
+
+abbrev pub dots : List ℕ → Bool
+dots n = same n (dot ∷ []) || same n (dot ∷ dot ∷ [])
+
+pub dots-one : (n : List ℕ) → length n ≡ 1 → eqb (getD n 0 0) dot ≡ dots n
+unfolding same
+dots-one [] h = absurd (omega arith)
+dots-one (x ∷ []) h = go (eqb x dot)
+  where
+    go : (b : Bool) → b ≡ (b && true || b && false)
+    go true = refl
+    go false = refl
+dots-one (x ∷ y ∷ n) h = absurd (omega arith)
+
+pub dots-two : (n : List ℕ) → length n ≡ 2 → (eqb (getD n 0 0) dot && eqb (getD n 1 0) dot) ≡ dots n
+unfolding same
+dots-two [] h = absurd (omega arith)
+dots-two (x ∷ []) h = absurd (omega arith)
+dots-two (x ∷ y ∷ []) h = go (eqb x dot) (eqb y dot)
+  where
+    go : (b d : Bool) → (b && d) ≡ (b && false || b && (d && true))
+    go true true = refl
+    go true false = refl
+    go false true = refl
+    go false false = refl
+dots-two (x ∷ y ∷ z ∷ n) h = absurd (omega arith)
+
+pub dots-none : (n : List ℕ) → (length n ≡ 1 → ⊥) → (length n ≡ 2 → ⊥) → dots n ≡ false
+dots-none n one two = rw (same-lengths n (dot ∷ []) one, same-lengths n (dot ∷ dot ∷ []) two)
+
+-- whole names, over the limit
+
+module _ (limit : ℕ) (n : List ℕ) where
+  pub stream-name-long : limit < length n → validStreamName limit n ≡ false
+  unfolding validStreamName
+  stream-name-long h = rw (lt-leb (length n) limit h)
+
+  pub stream-name-units : length n ≤ limit → validStreamName limit n ≡ all validUnit n
+  unfolding validStreamName
+  stream-name-units h = rw (le-leb (length n) limit h)
+
+  pub file-name-dots : dots n ≡ true → validFileName limit n ≡ false
+  unfolding validFileName
+  file-name-dots e = go (not (isEmpty n) && leb (length n) limit) (same n (dot ∷ [])) (same n (dot ∷ dot ∷ [])) e
+    where
+      go : (x one two : Bool) → (one || two) ≡ true → (x && not one && not two && all validUnit n) ≡ false
+      go true true two e = refl
+      go true false true e = refl
+      go true false false e = cc
+      go false one two e = refl
+
+  pub file-name-other : (length n ≡ 0 → ⊥) → dots n ≡ false → validFileName limit n ≡ validStreamName limit n
+  unfolding validFileName validStreamName isEmpty
+  file-name-other some e = rw (not-empty n some) (go (leb (length n) limit) (same n (dot ∷ [])) (same n (dot ∷ dot ∷ [])) e)
+    where
+      not-empty : (m : List ℕ) → (length m ≡ 0 → ⊥) → isEmpty m ≡ false
+      not-empty [] h = absurd (h refl)
+      not-empty (u ∷ us) h = refl
+
+      go : (x one two : Bool) → (one || two) ≡ false → (x && not one && not two && all validUnit n) ≡ (x && all validUnit n)
+      go true true two e = cc
+      go true false true e = cc
+      go true false false e = refl
+      go false one two e = refl
+
+pub file-name-empty : (limit : ℕ) (n : List ℕ) → length n ≡ 0 → validFileName limit n ≡ false
+unfolding validFileName isEmpty
+file-name-empty limit [] e = refl
+file-name-empty limit (u ∷ us) e = absurd (omega arith)
