@@ -5,6 +5,7 @@ pub mod Keep
 pub mod Pairs
 pub mod Find
 pub mod Scan
+pub mod Passes
 pub mod First
 pub mod Set
 pub mod Default

@@ -1,9 +1,11 @@
 // Names and paths: how units compare, which names are valid, how a stored name is read, and how a path is taken apart
 // (step 4 of an open).
+mod audit;
 mod stored;
 mod units;
 mod valid;
 
+pub use audit::valid_stored_name;
 pub use stored::name_equals;
 pub use stored::name_length;
 pub use stored::same_names;
