@@ -2,8 +2,11 @@ pub mod Conjunctions
 pub mod Slots
 pub mod Numbered
 pub mod Files
+pub mod FilesScan
 pub mod Parents
 pub mod Links
+pub mod LinksScan
+pub mod ParentsScan
 pub mod Streams
 pub mod Opens
 pub mod Counts

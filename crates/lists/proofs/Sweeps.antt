@@ -49,16 +49,6 @@ module _ {A : Type 0} (xs : List A) (i : ℕ) (d : A) (below : i < length xs) wh
     pub count-rest : count p (drop i xs) ≡ count p (drop (i + 1) xs) + cond (p (getD xs i d)) 1 0
     count-rest = ap (count p) rest ∙ count-add p (getD xs i d) (drop (i + 1) xs)
 
-  -- a test of each element with its number
-  module _ (p : ℕ → A → Bool) where
-    pub numbered-fails : p i (getD xs i d) ≡ false → allFrom p i (drop i xs) ≡ false
-    unfolding allFrom
-    numbered-fails e = rw (rest, allFrom, e)
-
-    pub numbered-next : p i (getD xs i d) ≡ true → allFrom p i (drop i xs) ≡ allFrom p (i + 1) (drop (i + 1) xs)
-    unfolding allFrom
-    numbered-next e = rw (add-one, drop-cons xs i d below, allFrom, e)
-
 -- nothing is left at the end
 module _ {A : Type 0} (xs : List A) (i : ℕ) (past : length xs ≤ i) where
   pub kept-end : (p : A → Bool) → keep p (drop i xs) ≡ []
@@ -76,10 +66,6 @@ module _ {A : Type 0} (xs : List A) (i : ℕ) (past : length xs ≤ i) where
   pub count-end : (p : A → Bool) → count p (drop i xs) ≡ 0
   unfolding count
   count-end p = rw (drop-of-length-le xs past)
-
-  pub numbered-end : (p : ℕ → A → Bool) → allFrom p i (drop i xs) ≡ true
-  unfolding allFrom
-  numbered-end p = rw (drop-of-length-le xs past)
 
 exchange : (a b c d : Bool) → ((a && b) && (c && d)) ≡ ((a && c) && (b && d))
 exchange true b true d = refl

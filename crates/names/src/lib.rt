@@ -1,10 +1,12 @@
 // Names and paths: how units compare, which names are valid, how a stored name is read, and how a path is taken apart
 // (step 4 of an open).
+mod audit;
 mod audit_streams;
 mod stored;
 mod units;
 mod valid;
 
+pub use audit::valid_stored_name;
 pub use audit_streams::is_unnamed;
 pub use audit_streams::valid_stored_stream_name;
 pub use audit_streams::zero_name;

@@ -6,7 +6,7 @@ use lib.ListN.{drop}
 use borrow.Author.Needs.{needs}
 use borrow.Author.Tests.{not-true, not-false}
 use Rattle.lists.specs.Lists.{allFrom}
-use Rattle.lists.proofs.Sweeps.{numbered-fails, numbered-next, numbered-end}
+use Rattle.lists.proofs.Passes.{numbered-stops, numbered-next, numbered-end}
 use Rattle.records.proofs.Lengths.{streams-length}
 use Rattle.records.proofs.Elements.{arraylessStream}
 use Rattle.consistency.proofs.CountsScan.{foundTest, counts-found}
@@ -52,7 +52,7 @@ returns c =
     sym
     (counts-found streams (a .args .t .rows) 256 found size (k .counts-of-streams .ensures)
     ∙ l .loop .inv
-    ∙ numbered-fails streams (l .loop .i) arraylessStream (omega arith) (foundTest found)
+    ∙ numbered-stops (foundTest found) streams (l .loop .i) arraylessStream (omega arith)
     (sym (c .before .same-counts .ensures) ∙ not-true _ (c .if1 .taken)))
 
 add-i : tie.Need-add-i Inv-loop μ-loop
@@ -70,7 +70,7 @@ loop-again c =
     let size = streams-length (a .args .t1) _ (a .good .0) in
     let found = k .counts-of-streams .result in
     l .loop .inv
-    ∙ numbered-next streams (l .loop .i) arraylessStream (omega arith) (foundTest found)
+    ∙ numbered-next (foundTest found) streams (l .loop .i) arraylessStream (omega arith)
     (sym (c .before .same-counts .ensures) ∙ not-false _ (c .if1 .left))
 
 returns-2 : tie.Need-returns-2 Inv-loop μ-loop
@@ -84,7 +84,7 @@ returns-2 c =
     sym
     (counts-found streams (a .args .t .rows) 256 found size (k .counts-of-streams .ensures)
     ∙ l .loop .inv
-    ∙ numbered-end streams (l .loop .i) (omega arith) (foundTest found))
+    ∙ numbered-end (foundTest found) streams (l .loop .i) (omega arith))
 
 pub counts-true-spec : {M : Type 1} → statement M
 counts-true-spec =

@@ -7,7 +7,7 @@ use lib.ListN.{drop}
 use borrow.Author.Needs.{needs}
 use borrow.Author.Tests.{not-true, not-false}
 use Rattle.lists.specs.Lists.{allFrom, keep}
-use Rattle.lists.proofs.Sweeps.{numbered-fails, numbered-next, numbered-end}
+use Rattle.lists.proofs.Passes.{numbered-stops, numbered-next, numbered-end}
 use Rattle.records.specs.Namespace.{bareUsed, namespace}
 use Rattle.records.proofs.Lengths.{files-length}
 use Rattle.records.proofs.Elements.{arraylessFile}
@@ -62,7 +62,7 @@ returns c =
     (files-found (v .files) (keep bareUsed (namespace v .streams)) 128 (found .all) (found .unnamed) size
     (k .streams-of-files .ensures)
     ∙ l .loop .inv
-    ∙ numbered-fails (v .files) (l .loop .i) arraylessFile (omega arith) (foundTest (found .all) (found .unnamed))
+    ∙ numbered-stops (foundTest (found .all) (found .unnamed)) (v .files) (l .loop .i) arraylessFile (omega arith)
     (sym (c .before .file-consistent .ensures) ∙ not-true _ (c .if1 .taken)))
 
 add-i : tie.Need-add-i Inv-loop μ-loop
@@ -80,7 +80,7 @@ loop-again c =
     let size = files-length v _ (a .good .0) in
     let found = k .streams-of-files .result in
     l .loop .inv
-    ∙ numbered-next (v .files) (l .loop .i) arraylessFile (omega arith) (foundTest (found .all) (found .unnamed))
+    ∙ numbered-next (foundTest (found .all) (found .unnamed)) (v .files) (l .loop .i) arraylessFile (omega arith)
     (sym (c .before .file-consistent .ensures) ∙ not-false _ (c .if1 .left))
 
 returns-2 : tie.Need-returns-2 Inv-loop μ-loop
@@ -95,7 +95,7 @@ returns-2 c =
     (files-found (v .files) (keep bareUsed (namespace v .streams)) 128 (found .all) (found .unnamed) size
     (k .streams-of-files .ensures)
     ∙ l .loop .inv
-    ∙ numbered-end (v .files) (l .loop .i) (omega arith) (foundTest (found .all) (found .unnamed)))
+    ∙ numbered-end (foundTest (found .all) (found .unnamed)) (v .files) (l .loop .i) (omega arith))
 
 pub files-consistent-spec : {M : Type 1} → statement M
 files-consistent-spec =
