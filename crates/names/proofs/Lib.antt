@@ -9,3 +9,4 @@ pub mod Places
 pub mod Parsing
 pub mod Judging
 pub mod Walk
+pub mod StoredUnits
