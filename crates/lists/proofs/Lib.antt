@@ -14,3 +14,4 @@ pub mod PairsPerm
 pub mod Pigeonhole
 pub mod Writes
 pub mod Scan
+pub mod Lookups
