@@ -20,8 +20,8 @@ use Rattle.records.specs.declared.Link.{Link}
 use Rattle.records.proofs.Checked.{refused≢passed, passed-same, bind-passed}
 use Rattle.names.specs.Units.{folded, equalUnits}
 use Rattle.names.specs.Names.{units, validFileName}
-use Rattle.names.specs.Paths.{Leaf, Path}
-use Rattle.names.proofs.Parsed.{LeafFits}
+use Rattle.paths.specs.Paths.{Leaf, Path}
+use Rattle.paths.proofs.Parsed.{LeafFits}
 use Rattle.consistency.proofs.Slots.{directory-used}
 use Rattle.lookup.specs.Lookup.{linkMatches, linkNumber, findLink, stepInto, descend, Place, found, missing, placeOf, locateLeaf, locate}
 use Rattle.store.proofs.Sequences.Facts.{NamesConsistent}

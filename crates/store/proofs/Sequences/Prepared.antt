@@ -32,8 +32,8 @@ use Rattle.records.specs.declared.Request.{Request}
 use Rattle.records.proofs.Checked.{refused≢passed, passed-same, bind-passed, then-passed, test-passed}
 use Rattle.names.specs.Units.{equalUnits}
 use Rattle.names.specs.Names.{units, validStreamName}
-use Rattle.names.specs.Paths.{Leaf, Path, parsePath}
-use Rattle.names.proofs.Parsed.{LeafFits, parsed-leaf}
+use Rattle.paths.specs.Paths.{Leaf, Path, parsePath}
+use Rattle.paths.proofs.Parsed.{LeafFits, parsed-leaf}
 use Rattle.lookup.specs.Lookup.{linkMatches, streamMatches, streamNumber, findStream, Place, found, missing, locate}
 use Rattle.store.specs.Request.{wantsDirectory, wantsFile, badParameters, badAccess, wantsBoth, writesVolume}
 use Rattle.store.specs.Prepare

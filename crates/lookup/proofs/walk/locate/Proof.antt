@@ -2,7 +2,7 @@
 use mathlib.Core.Path.{_≡_}
 use borrow.Author.Needs.{needs}
 use Rattle.records.specs.Checked.{_>>=_}
-use Rattle.names.specs.Positions.{asPath}
+use Rattle.paths.specs.Positions.{asPath}
 use Rattle.lookup.specs.Lookup.{descend, locateLeaf, locate}
 use Rattle.lookup.specs.Answers.{leafNames, asPlace, locateParsed}
 use Rattle.lookup.proofs.walk.locate.Statement.{statement}
