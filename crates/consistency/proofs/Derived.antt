@@ -1,13 +1,12 @@
 -- What follows from consistency: used slots are below their table's size, and a free stream is all zero, its counts
 -- too, since no open names it.
-use Prim.Native.Nat.{ℕ, zero, suc, _≤_, _<_}
+use Prim.Native.Nat.{ℕ, suc, _≤_, _<_}
 use mathlib.Core.Path.{_≡_, refl, sym, _∙_, ap, subst}
 use mathlib.Core.Bool.{Bool, true, false, _&&_}
-use mathlib.Core.List.{List, [], _∷_, map}
+use mathlib.Core.List.{List, [], _∷_}
 use mathlib.Core.Logic.{⊎-elim}
 use native.Mathlib.Decide.{decLt}
 use native.Mathlib.Omega.{arith}
-use lib.Dec.{eqb}
 use lib.ListN.{length, getD, List·getD-map, List·getD-eq-default}
 use borrow.Author.Tests.{eqb-true}
 use Rattle.lists.specs.Lists.{count, keep}
@@ -21,11 +20,10 @@ use Rattle.records.specs.declared.LinkNo.{LinkNo}
 use Rattle.records.specs.declared.StreamNo.{StreamNo}
 use Rattle.records.specs.declared.File.{File}
 use Rattle.records.specs.declared.Link.{Link}
-use Rattle.records.specs.declared.Stream.{Stream}
 use Rattle.records.specs.declared.Open.{Open}
 use Rattle.records.specs.declared.OpenTable.{OpenTable}
 use Rattle.records.specs.declared.Volume.{Volume}
-use Rattle.sharing.specs.Sharing.{onStream, counted, isHolder, isSharer, countsOfAll, countsOf}
+use Rattle.sharing.specs.Sharing.{onStream, countsOfAll, countsOf}
 use Rattle.consistency.specs.Relations.{live}
 use Rattle.consistency.specs.Consistent.{FilesConsistent, LinksConsistent, StreamsConsistent, OpensConsistent, Consistent, openAt}
 use Rattle.consistency.proofs.Slots.{same-stream}

@@ -1,13 +1,13 @@
 -- The test that computes answers true exactly when the tables are consistent.
 use mathlib.Core.Path.{_≡_}
-use mathlib.Core.Bool.{Bool, true, _&&_}
+use mathlib.Core.Bool.{true}
 use mathlib.Core.Logic.{_↔_}
+use Rattle.lists.proofs.Tests.{and-iff}
 use Rattle.records.specs.Namespace.{namespace}
 use Rattle.records.specs.declared.OpenTable.{OpenTable}
 use Rattle.records.specs.declared.Volume.{Volume}
-use Rattle.consistency.specs.Test.{filesTest, linksTest, streamsTest, opensTest, countsTest, consistent}
+use Rattle.consistency.specs.Test.{consistent}
 use Rattle.consistency.specs.Consistent.{Consistent}
-use Rattle.consistency.proofs.Conjunctions.{parts5, whole5}
 use Rattle.consistency.proofs.Files.{files-sound, files-complete}
 use Rattle.consistency.proofs.Links.{links-sound, links-complete}
 use Rattle.consistency.proofs.Streams.{streams-sound, streams-complete}
@@ -17,26 +17,25 @@ use Rattle.consistency.proofs.Counts.{counts-sound, counts-complete}
 pub consistent-sound : (v : Volume) (t : OpenTable) → consistent v t ≡ true → Consistent v t
 unfolding consistent
 consistent-sound v t h =
-    let ss = namespace v .streams in
-    let next = v .«next_handle» .0 in
-    let (f, l, s, o, c) =
-    parts5 (filesTest (v .files)) (linksTest (v .files) (v .links)) (streamsTest (v .files) ss)
-    (opensTest ss next (t .rows)) (countsTest (v .streams) (t .rows)) h in
+    let p = simp (consistent, and-iff) at h in
+    let f = files-sound (v .files) (p .0 .0 .0 .0) in
     record {
-      files = files-sound (v .files) f;
-      links = links-sound (v .files) (files-sound (v .files) f) (v .links) l;
-      streams = streams-sound (v .files) ss s;
-      opens = opens-sound ss next (t .rows) o;
-      counts = counts-sound (v .streams) (t .rows) c;
+      files = f;
+      links = links-sound (v .files) f (v .links) (p .0 .0 .0 .1);
+      streams = streams-sound (v .files) (namespace v .streams) (p .0 .0 .1);
+      opens = opens-sound (namespace v .streams) (v .«next_handle» .0) (t .rows) (p .0 .1);
+      counts = counts-sound (v .streams) (t .rows) (p .1);
     }
 
 pub consistent-complete : (v : Volume) (t : OpenTable) → Consistent v t → consistent v t ≡ true
 unfolding consistent
 consistent-complete v t c =
-    whole5 (files-complete (v .files) (c .files)) (links-complete (v .files) (c .files) (v .links) (c .links))
-    (streams-complete (v .files) (namespace v .streams) (c .streams))
-    (opens-complete (namespace v .streams) (v .«next_handle» .0) (t .rows) (c .opens))
-    (counts-complete (v .streams) (t .rows) (c .counts))
+    let f = files-complete (v .files) (c .files) in
+    let l = links-complete (v .files) (c .files) (v .links) (c .links) in
+    let s = streams-complete (v .files) (namespace v .streams) (c .streams) in
+    let o = opens-complete (namespace v .streams) (v .«next_handle» .0) (t .rows) (c .opens) in
+    let n = counts-complete (v .streams) (t .rows) (c .counts) in
+    simp (consistent, and-iff) ((((f, l), s), o), n)
 
 pub consistent-iff : (v : Volume) (t : OpenTable) → (consistent v t ≡ true) ↔ Consistent v t
 consistent-iff v t = (consistent-sound v t, consistent-complete v t)

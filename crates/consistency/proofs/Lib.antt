@@ -1,4 +1,3 @@
-pub mod Conjunctions
 pub mod Slots
 pub mod Numbered
 pub mod Files

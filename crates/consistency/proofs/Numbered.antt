@@ -1,7 +1,7 @@
--- Tests of every slot with its number, of every used file, and of two things that exclude each other.
-use Prim.Native.Nat.{ℕ, _≤_, _<_}
+-- Tests of every slot with its number, and of two things that exclude each other.
+use Prim.Native.Nat.{ℕ, _<_}
 use mathlib.Core.Path.{_≡_, refl, sym, _∙_, ap}
-use mathlib.Core.Bool.{Bool, true, false, not, _&&_, _||_}
+use mathlib.Core.Bool.{Bool, true, false, not, _&&_}
 use mathlib.Core.List.{List}
 use mathlib.Core.Logic.{_≢_, ⊎-elim}
 use native.Mathlib.Nat.{zero-add}
@@ -10,7 +10,7 @@ use lib.ListN.{length, getD}
 use borrow.Author.Tests.{eqb-true, eq-eqb, not-true}
 use Rattle.lists.specs.Lists.{allFrom, same}
 use Rattle.lists.proofs.All.{all-from-at, all-from-of}
-use Rattle.lists.proofs.Tests.{tested, not-both, same-is, same-self, guarded, guard}
+use Rattle.lists.proofs.Tests.{tested, not-both, same-is, same-self}
 use Rattle.records.specs.Slots.{isUsed, isDirectory, zeroFile, fileUsed, fileAt}
 use Rattle.records.specs.declared.FileNo.{FileNo}
 use Rattle.records.specs.declared.File.{File}
@@ -32,21 +32,15 @@ pub directory-file : (fs : List File) (f : FileNo) → isDirectory (fileAt fs f 
 unfolding fileUsed
 directory-file fs f d = directory-used (fileAt fs f .«file_type») d
 
--- a test of every used file
+-- a test of every file with its number
 module _ (p : ℕ → File → Bool) (fs : List File) where
-  pub files-at : allFrom (λ n f. not (fileUsed f) || p n f) 0 fs ≡ true
-      → (f : FileNo) → fileUsed (fileAt fs f) ≡ true → p (f .0) (fileAt fs f) ≡ true
+  pub files-at : allFrom p 0 fs ≡ true → (f : FileNo) → fileUsed (fileAt fs f) ≡ true → p (f .0) (fileAt fs f) ≡ true
   unfolding fileAt
-  files-at h f u =
-      guarded (fileUsed (fileAt fs f)) (p (f .0) (fileAt fs f))
-      (numbered-at (λ n g. not (fileUsed g) || p n g) zeroFile fs h (f .0) (file-in fs f u)) u
+  files-at h f u = numbered-at p zeroFile fs h (f .0) (file-in fs f u)
 
-  pub files-of : ((f : FileNo) → fileUsed (fileAt fs f) ≡ true → p (f .0) (fileAt fs f) ≡ true)
-      → allFrom (λ n f. not (fileUsed f) || p n f) 0 fs ≡ true
+  pub files-of : ((f : FileNo) → p (f .0) (fileAt fs f) ≡ true) → allFrom p 0 fs ≡ true
   unfolding fileAt
-  files-of h =
-      numbered-of (λ n g. not (fileUsed g) || p n g) zeroFile fs
-      (λ i b. guard (fileUsed (getD fs i zeroFile)) (p i (getD fs i zeroFile)) (h (record { 0 = i })))
+  files-of h = numbered-of p zeroFile fs (λ i b. h (record { 0 = i }))
 
 -- two tests that exclude each other
 pub excluded : (a b : Bool) → not (a && b) ≡ true → a ≡ true → b ≡ false

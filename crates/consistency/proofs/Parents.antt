@@ -2,19 +2,19 @@
 -- there are files.
 use Prim.Native.Nat.{ℕ, zero, suc, _+_, _-_, _≤_, _<_}
 use mathlib.Core.Path.{_≡_, refl, sym, _∙_, ap}
-use mathlib.Core.Bool.{Bool, true, false, _&&_, _||_}
+use mathlib.Core.Bool.{Bool, true, false, _||_}
 use mathlib.Core.List.{List, [], _∷_}
 use mathlib.Core.Logic.{_≢_, ⊎-elim}
 use native.Mathlib.Nat.{zero-add, suc-add}
 use native.Mathlib.Omega.{arith}
 use lib.Dec.{eqb}
 use lib.ListN.{length, getD}
-use borrow.Author.Tests.{eqb-true, eqb-false, eq-eqb, ne-eqb}
+use borrow.Author.Tests.{eqb-true, eqb-false, eq-eqb}
 use Rattle.lists.specs.Lists.{count, keep}
 use Rattle.lists.proofs.Tests.{and-left, not-both, or-cases, or-left, or-right}
 use Rattle.lists.proofs.Keep.{keep-yes, keep-no, count-keep, count-yes, count-no}
 use Rattle.lists.proofs.Pigeonhole.{pigeonhole, least}
-use Rattle.records.specs.Slots.{root, zeroLink, isDirectory, fileUsed, linkUsed, fileAt}
+use Rattle.records.specs.Slots.{root, zeroLink, fileUsed, linkUsed, fileAt}
 use Rattle.records.specs.declared.FileNo.{FileNo}
 use Rattle.records.specs.declared.File.{File}
 use Rattle.records.specs.declared.Link.{Link}

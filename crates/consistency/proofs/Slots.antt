@@ -2,7 +2,7 @@
 -- between numbers that are types of their own.
 use Prim.Native.Nat.{ℕ, _≤_, _<_}
 use mathlib.Core.Path.{_≡_, refl, sym, _∙_, ap}
-use mathlib.Core.Bool.{Bool, true, false, cond, not, _&&_, false≢true, true≢false}
+use mathlib.Core.Bool.{Bool, true, false, cond, not, _||_, false≢true, true≢false}
 use mathlib.Core.List.{List}
 use mathlib.Core.Logic.{_↔_}
 use native.Mathlib.Decide.{decLt}
@@ -11,12 +11,11 @@ use lib.ListN.{length, getD, List·getD-eq-default}
 use borrow.Author.Tests.{not-true}
 use Rattle.lists.specs.Lists.{all}
 use Rattle.lists.proofs.All.{all-of, all-slots}
-use Rattle.lists.proofs.Tests.{cond-true, cond-false, not-both}
+use Rattle.lists.proofs.Tests.{cond-true, cond-false, not-both, guarded, guard}
 use Rattle.records.specs.Slots.{isUsed, isDirectory}
 use Rattle.records.specs.declared.FileType.{FileType}
 use Rattle.records.specs.declared.FileType.the-variants.{Unused, Data, Directory}
 use Rattle.records.specs.declared.FileNo.{FileNo}
-use Rattle.records.specs.declared.LinkNo.{LinkNo}
 use Rattle.records.specs.declared.StreamNo.{StreamNo}
 use Rattle.records.specs.declared.Handle.{Handle}
 use Rattle.consistency.specs.Test.{sameBool}
@@ -56,18 +55,14 @@ same-type Directory Data h k e = absurd (true≢false e)
 same-type Directory Directory h k e = refl
 
 -- two tests that agree
-pub same-bool : (a b : Bool) → sameBool a b ≡ true → a ≡ b
+pub same-bool-iff : (a b : Bool) → (sameBool a b ≡ true) ↔ (a ≡ b)
 unfolding sameBool
-same-bool true b h = sym h
-same-bool false b h = sym (not-true b h)
+same-bool-iff true b = (sym, sym)
+same-bool-iff false b = (λ h. sym (not-true b h), λ e. ap not (sym e))
 
-pub same-bool-of : {a b : Bool} → a ≡ b → sameBool a b ≡ true
-unfolding sameBool
-same-bool-of {a} {b} e = ap (sameBool a) (sym e) ∙ self a
-  where
-    self : (c : Bool) → sameBool c c ≡ true
-    self true = refl
-    self false = refl
+-- a test that counts only where another passes
+pub guard-iff : (a b : Bool) → ((not a || b) ≡ true) ↔ (a ≡ true → b ≡ true)
+guard-iff a b = (guarded a b, guard a b)
 
 -- one test of two, by a third
 module _ (u a b : Bool) where

@@ -16,3 +16,4 @@ pub mod PairsPerm
 pub mod Pigeonhole
 pub mod Writes
 pub mod Sweeps
+pub mod Lookups

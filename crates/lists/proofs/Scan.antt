@@ -3,7 +3,7 @@
 -- element that settles it, one for an element that is passed, and one for the end.
 use Prim.Native.Nat.{ℕ, zero, suc, _+_, _≤_, _<_}
 use mathlib.Core.Path.{_≡_, refl, sym, ap, _∙_}
-use mathlib.Core.Bool.{Bool, true, false, _&&_}
+use mathlib.Core.Bool.{Bool, true, false, cond, _&&_}
 use mathlib.Core.List.{List, [], _∷_, _++_, map}
 use mathlib.Core.Option.{none, some}
 use native.Mathlib.Nat.{le-of-suc-le-suc, not-suc-le-zero}
@@ -12,7 +12,7 @@ use lib.Dec.{eqb}
 use lib.ListN.{length, getD, drop, drop-of-length-le}
 use lib.Seq.{drop-cons}
 use borrow.Author.Tests.{eq-eqb, ne-eqb, eqb-true}
-use Rattle.lists.specs.Lists.{all, any, firstFrom, same, oneOf}
+use Rattle.lists.specs.Lists.{all, any, keep, firstFrom, same, oneOf}
 
 module _ {A : Type 0} where
   -- what is left at place i, by its first element
@@ -29,6 +29,16 @@ module _ {A : Type 0} where
   drop-map f zero xs = refl
   drop-map f (suc i) [] = refl
   drop-map f (suc i) (x ∷ xs) = drop-map f i xs
+
+-- what is kept of two lists one after the other
+pub keep-append : {A : Type 0} (p : A → Bool) (xs ys : List A) → keep p (xs ++ ys) ≡ keep p xs ++ keep p ys
+unfolding keep
+keep-append p [] ys = refl
+keep-append p (x ∷ xs) ys = go (p x) (keep-append p xs ys)
+  where
+    go : (b : Bool) → keep p (xs ++ ys) ≡ keep p xs ++ keep p ys → cond b (x ∷ keep p (xs ++ ys)) (keep p (xs ++ ys)) ≡ cond b (x ∷ keep p xs) (keep p xs) ++ keep p ys
+    go true h = rw h
+    go false h = h
 
 module _ {A : Type 0} (p : A → Bool) (xs : List A) (i : ℕ) where
   -- all

@@ -1,13 +1,12 @@
--- A table of slots, of which a test says which are used: past its end stands a free one. And a record set at a place:
--- what holds at every place then, at every two places, and how many pass a test.
-use Prim.Native.Nat.{ℕ, _+_, _≤_, _<_}
-use mathlib.Core.Path.{_≡_, refl, sym, _∙_, ap, subst, subst₂}
-use mathlib.Core.Bool.{Bool, true, false, not}
+-- Free slots of a table, of which a test says which are used. And a record set at a place: what holds at every place
+-- then, at every two places, and how many pass a test.
+use Prim.Native.Nat.{ℕ, _+_, _<_}
+use mathlib.Core.Path.{_≡_, sym, _∙_, ap, subst, subst₂}
+use mathlib.Core.Bool.{Bool, true, false}
 use mathlib.Core.List.{List}
 use mathlib.Core.Logic.{_⊎_, inl, inr, ⊎-elim}
-use native.Mathlib.Decide.{decLt}
 use native.Mathlib.Omega.{arith}
-use lib.ListN.{length, getD, set, List·getD-eq-default}
+use lib.ListN.{length, getD, set}
 use lib.Seq.{lt-length-set, getD-set-other}
 use Rattle.lists.specs.Lists.{any, count}
 use Rattle.lists.proofs.Tests.{tested, not-both}
@@ -26,18 +25,6 @@ module _ {A : Type 0} (p : A → Bool) (d : A) where
 
   pub count-none : (xs : List A) → ((i : ℕ) → p (getD xs i d) ≡ true → ⊥) → count p xs ≡ 0
   count-none xs h = any-count p xs (refuted (any p xs) (λ e. let q = any-at p d xs e in h (q .0) (q .2)))
-
--- a table whose default is free
-module _ {A : Type 0} (used : A → Bool) (d : A) (free : used d ≡ false) where
-  pub slot-below : (xs : List A) (i : ℕ) → used (getD xs i d) ≡ true → i < length xs
-  slot-below xs i u =
-      elim (decLt i (length xs)) [
-        | yes b ↦ b
-        | no n ↦ absurd (not-both u (ap used (List·getD-eq-default xs d {n = i} (past n)) ∙ free))
-      ]
-    where
-      past : (i < length xs → ⊥) → length xs ≤ i
-      past n = omega arith
 
 -- a free slot of the table
 pub record FreeSlot {A : Type 0} (used : A → Bool) (d : A) (xs : List A) (k : ℕ) : Type 0 where

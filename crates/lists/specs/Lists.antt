@@ -25,12 +25,12 @@ module _ {A : Type 0} where
   -- how many elements pass
   unfoldable pub count : (A → Bool) → List A → ℕ
   count p [] = 0
-  count p (x ∷ xs) = cond (p x) (suc (count p xs)) (count p xs)
+  count p (x ∷ xs) = let rest = count p xs in cond (p x) (suc rest) rest
 
   -- the elements that pass, in order
   unfoldable pub keep : (A → Bool) → List A → List A
   keep p [] = []
-  keep p (x ∷ xs) = cond (p x) (x ∷ keep p xs) (keep p xs)
+  keep p (x ∷ xs) = let rest = keep p xs in cond (p x) (x ∷ rest) rest
 
   -- every element passes against every later one
   unfoldable pub pairs : (A → A → Bool) → List A → Bool

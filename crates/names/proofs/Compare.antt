@@ -3,7 +3,7 @@ use Prim.Native.Nat.{ℕ, _+_, _≤_, _<_}
 use mathlib.Core.Path.{_≡_}
 use mathlib.Core.Bool.{Bool, true, false}
 use mathlib.Core.List.{List, _∷_, map}
-use lib.ListN.{length, getD, drop, length-map}
+use lib.ListN.{length, getD, drop, drop-of-length-le, length-map}
 use Rattle.lists.specs.Lists.{same}
 use Rattle.lists.proofs.Scan.{drop-next, same-tail, same-differs, same-lengths}
 use Rattle.names.specs.Units.{folded, equalUnits}
@@ -32,4 +32,4 @@ module _ (fold : Bool) (a b : List ℕ) (i : ℕ) where
 
   pub equal-end : length a ≤ i → length b ≤ i → equalUnits fold (drop i a) (drop i b) ≡ true
   unfolding equalUnits same
-  equal-end ha hb = rw (lib.ListN.drop-of-length-le a ha, lib.ListN.drop-of-length-le b hb)
+  equal-end ha hb = rw (drop-of-length-le a ha, drop-of-length-le b hb)

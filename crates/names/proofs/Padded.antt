@@ -2,14 +2,14 @@
 -- are equal match, folded or not.
 use Prim.Native.Nat.{ℕ, zero, suc, _-_}
 use mathlib.Core.Path.{_≡_, refl, sym, _∙_, ap}
-use mathlib.Core.Bool.{Bool, true, false, not, _&&_, false≢true}
+use mathlib.Core.Bool.{Bool, true, not, _&&_, false≢true}
 use mathlib.Core.List.{List, [], _∷_, _++_, map}
 use mathlib.Core.Logic.{_≢_}
 use native.Mathlib.Omega.{arith}
 use lib.Dec.{leb}
 use lib.ListN.{length, getD, replicate}
 use Rattle.lists.specs.Lists.{all, isEmpty, same, padded}
-use Rattle.lists.proofs.Tests.{and-left, and-right, same-self}
+use Rattle.lists.proofs.Tests.{and-right, same-self}
 use Rattle.names.specs.Units.{dot, folded, equalUnits}
 use Rattle.names.specs.Names.{validUnit, validFileName, validStreamName, units, wellStored}
 

@@ -1,3 +1,4 @@
 pub mod Units
 pub mod Names
 pub mod Paths
+pub mod Positions

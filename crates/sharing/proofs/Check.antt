@@ -4,14 +4,13 @@ use mathlib.Core.Path.{_≡_, refl, sym, _∙_, ap, ap₂}
 use mathlib.Core.Bool.{Bool, true, false, not, _&&_, _||_}
 use mathlib.Core.List.{List}
 use lib.Dec.{eqb, ltb}
-use Rattle.lists.specs.Lists.{any, count, keep, Permutation}
+use Rattle.lists.specs.Lists.{any, keep, Permutation}
 use Rattle.lists.proofs.Tests.{and-left}
 use Rattle.lists.proofs.Keep.{any-same, any-keep}
 use Rattle.lists.proofs.Counting.{count-some, count-fewer, any-or, any-and}
 use Rattle.lists.proofs.Permutations.{perm-any}
 use Rattle.records.specs.declared.StreamNo.{StreamNo}
 use Rattle.records.specs.declared.Open.{Open}
-use Rattle.records.specs.declared.ShareCounts.{ShareCounts}
 use Rattle.sharing.specs.Sharing.{Kind, reading, writing, deleting, anyKind, holds, shares, counted, conflict, onStream, anyConflict, isHolder, isSharer, countsOfAll, countsOf, holders, sharers, shareCheck}
 use Rattle.sharing.proofs.PairRule.{any-kind-same}
 use Rattle.sharing.proofs.Counts.{opens-of, holders-of, sharers-of}

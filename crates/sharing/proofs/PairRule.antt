@@ -1,7 +1,7 @@
 -- Which opens are counted; the pair rule doesn't depend on the order of the two opens, and an uncounted one conflicts
 -- with none.
 use Prim.Native.Nat.{ℕ}
-use mathlib.Core.Path.{_≡_, refl, sym, _∙_, ap, ap₂}
+use mathlib.Core.Path.{_≡_, refl, ap₂}
 use mathlib.Core.Bool.{Bool, true, false, not, _&&_, _||_}
 use Rattle.lists.proofs.Tests.{or-left, or-right}
 use Rattle.records.specs.declared.Open.{Open}
@@ -12,16 +12,16 @@ pub any-kind-same : (p q : Kind → Bool) → ((k : Kind) → p k ≡ q k) → a
 unfolding anyKind
 any-kind-same p q h = rw (h reading, h writing, h deleting)
 
--- an open is counted exactly where it holds a kind
+-- an open is uncounted exactly where it holds no kind
+pub uncounted-none : (granted : ℕ) → ((k : Kind) → holds k granted ≡ false) → counted granted ≡ false
+unfolding counted anyKind
+uncounted-none g h = rw (h reading, h writing, h deleting)
+
 pub counted-holder : (k : Kind) (granted : ℕ) → holds k granted ≡ true → counted granted ≡ true
 unfolding counted anyKind
 counted-holder reading g h = or-left (holds deleting g) (or-left (holds writing g) h)
 counted-holder writing g h = or-left (holds deleting g) (or-right (holds reading g) h)
 counted-holder deleting g h = or-right (holds reading g || holds writing g) h
-
-pub uncounted-none : (granted : ℕ) → ((k : Kind) → holds k granted ≡ false) → counted granted ≡ false
-unfolding counted anyKind
-uncounted-none g h = rw (h reading, h writing, h deleting)
 
 or-swap : (a b : Bool) → (a || b) ≡ (b || a)
 or-swap true true = refl

@@ -2,7 +2,7 @@
 use Prim.Native.Nat.{ℕ, suc, _-_, _≤_, _<_}
 use mathlib.Core.Path.{_≡_, refl, sym, _∙_, ap}
 use mathlib.Core.Bool.{Bool, true, false}
-use mathlib.Core.List.{List, [], _∷_}
+use mathlib.Core.List.{List, _∷_}
 use mathlib.Core.Logic.{_⊎_, ⊎-elim}
 use native.Mathlib.Omega.{arith}
 use lib.ListN.{length, getD, drop, drop-of-length-le, length-drop}
@@ -14,7 +14,7 @@ use Rattle.records.specs.declared.StreamNo.{StreamNo}
 use Rattle.records.specs.declared.Open.{Open}
 use Rattle.records.specs.declared.ShareCounts.{ShareCounts}
 use Rattle.records.specs.Slots.{openUsed, zeroCounts}
-use Rattle.sharing.specs.Sharing.{onStream, countsOf, countsOfAll, withOpen}
+use Rattle.sharing.specs.Sharing.{onStream, countsOf, countsOfAll}
 use Rattle.sharing.specs.Saturating.{withOpenUpTo}
 use Rattle.sharing.proofs.Counts.{counts-cons, counts-skip}
 use Rattle.sharing.proofs.UpTo.{up-to-counts}
@@ -42,7 +42,9 @@ module _ (s : StreamNo) (rows : List Open) where
     row = getD rows (n - 1) d
 
     before-rows : drop (n - 1) rows ≡ row ∷ drop n rows
-    before-rows = drop-cons rows (n - 1) d (omega arith) ∙ ap (λ (m : ℕ). row ∷ drop m rows) (let e : suc (n - 1) ≡ n = omega arith in e)
+    before-rows =
+        let e : suc (n - 1) ≡ n = omega arith in
+        drop-cons rows (n - 1) d (omega arith) ∙ ap (λ (m : ℕ). row ∷ drop m rows) e
 
     -- a row that is used and on the stream is one open more
     pub row-counted : (limit : ℕ) → length rows < limit → openUsed row ≡ true → onStream s row ≡ true

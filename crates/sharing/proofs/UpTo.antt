@@ -4,20 +4,19 @@ use mathlib.Core.Path.{_≡_}
 use mathlib.Core.Bool.{Bool, true, false, cond}
 use mathlib.Core.List.{List}
 use native.Mathlib.Omega.{arith}
-use native.Mathlib.Nat.{min-eq-left}
 use lib.ListN.{length}
 use Rattle.records.specs.declared.StreamNo.{StreamNo}
 use Rattle.records.specs.declared.Open.{Open}
 use Rattle.records.specs.declared.ShareCounts.{ShareCounts}
-use Rattle.sharing.specs.Sharing.{Kind, counted, isHolder, isSharer, holders, sharers, countsOf, changedBy, withOpen}
+use Rattle.sharing.specs.Sharing.{counted, isHolder, isSharer, holders, sharers, countsOf, changedBy, withOpen}
 use Rattle.sharing.specs.Saturating.{plusUpTo, withOpenUpTo}
 use Rattle.sharing.proofs.Counts.{AtMost, same-counts, opens-changed, holders-changed, sharers-changed, counts-bound}
 
 -- one more than a number below the limit
 plus-below : (limit n : ℕ) → n < limit → (b : Bool) → plusUpTo limit n (cond b 1 0) ≡ n + cond b 1 0
 unfolding plusUpTo
-plus-below limit n h true = min-eq-left (omega arith)
-plus-below limit n h false = min-eq-left (omega arith)
+plus-below limit n h true = omega arith
+plus-below limit n h false = omega arith
 
 module _ (limit n : ℕ) (below : n < limit) where
   pub up-to-same : (o : Open) (c : ShareCounts) → AtMost n c → withOpenUpTo limit o c ≡ withOpen o c

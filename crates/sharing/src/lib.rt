@@ -95,7 +95,7 @@ fn one_if_has(set: u32, mask: u32) -> u16
 }
 
 // What one open adds to the counts: each is 0 or 1.
-pub fn counts_of_one(o: Open) -> ShareCounts
+fn counts_of_one(o: Open) -> ShareCounts
     ensures { λ r. ⌜ r ≡ countsOfAll (o ∷ []) ⌝ }
 {
     if counted(o.granted) {

@@ -1,5 +1,5 @@
--- The object store (the paper's desk): open, close, set_read_only and audit on the tables. Consistency comes first in the
--- first three; a refusal leaves every table as it was.
+-- The object store (the paper's desk): open, close, set_read_only and audit on the tables. A refusal leaves every table
+-- as it was.
 use Prim.Native.Nat.{ℕ, suc}
 use mathlib.Core.Bool.{Bool, true, false, not, _&&_}
 use mathlib.Core.List.{List, [], _∷_, map}
@@ -30,6 +30,10 @@ use Rattle.store.specs.Complete.{View, Change, Decision, changed, decide
 
 unfoldable pub refusal : Volume → OpenTable → Status → Answer
 refusal v t s = record { outcome = Refused s; granted = 0; volume = v; opens = t }
+
+-- consistency comes first in open, close and set_read_only
+unfoldable pub whenConsistent : Volume → OpenTable → Answer → Answer
+whenConsistent v t answer = elim (consistent v t) [ true ↦ answer | false ↦ refusal v t FileCorruptError ]
 
 -- some open of a list is on the file
 unfoldable pub anyOnFile : FileNo → List Open → Bool
@@ -93,11 +97,7 @@ openConcluded v t (passed d) =
     }
 
 unfoldable pub openAnswer : Volume → OpenTable → Request → List ℕ → Answer
-openAnswer v t r units =
-    elim (consistent v t) [
-      | true ↦ openConcluded v t (decide (storeView v t) (namespace v) r units)
-      | false ↦ refusal v t FileCorruptError
-    ]
+openAnswer v t r units = whenConsistent v t (openConcluded v t (decide (storeView v t) (namespace v) r units))
 
 -- close: the open's slot is free again, and the open leaves its stream's share counts
 unfoldable pub hasHandle : Handle → Open → Bool
@@ -124,11 +124,7 @@ closeConcluded v t (some i) =
     }
 
 unfoldable pub closeAnswer : Volume → OpenTable → Handle → Answer
-closeAnswer v t h =
-    elim (consistent v t) [
-      | true ↦ closeConcluded v t (first (hasHandle h) (t .rows))
-      | false ↦ refusal v t FileCorruptError
-    ]
+closeAnswer v t h = whenConsistent v t (closeConcluded v t (first (hasHandle h) (t .rows)))
 
 -- set_read_only (the paper's switch): the mark and nothing else
 unfoldable pub volumeMarked : Bool → Volume → Volume
@@ -143,10 +139,7 @@ volumeMarked readOnly v =
 
 unfoldable pub setReadOnlyAnswer : Volume → OpenTable → Bool → Answer
 setReadOnlyAnswer v t readOnly =
-    elim (consistent v t) [
-      | true ↦ record { outcome = Done; granted = 0; volume = volumeMarked readOnly v; opens = t }
-      | false ↦ refusal v t FileCorruptError
-    ]
+    whenConsistent v t (record { outcome = Done; granted = 0; volume = volumeMarked readOnly v; opens = t })
 
 -- audit changes nothing
 unfoldable pub audit : Volume → OpenTable → Bool

@@ -1,6 +1,6 @@
 -- `sharing::counts_of` meets its contract: at the loop's head the counts are those of the rows from i on.
 use Prim.Native.Nat.{_≤_}
-use mathlib.Core.Path.{_≡_, refl, sym, _∙_, ap}
+use mathlib.Core.Path.{_≡_, sym, _∙_, ap}
 use mathlib.Core.Logic.{⊎-elim, inl, inr}
 use native.Mathlib.Omega.{arith}
 use borrow.Author.Needs.{needs}
@@ -76,7 +76,8 @@ loop-again-2 c =
 returns : tie.Need-returns Inv-loop μ-loop
 returns c =
     let a = c .before .before .before .args in
-    c .before .loop .inv .1 ∙ ap (countsFrom (a .s) (a .t1 .rows)) (let e : c .before .loop .i ≡ 0 = omega arith in e) ∙ from-start (a .s) (a .t1 .rows)
+    let done : c .before .loop .i ≡ 0 = omega arith in
+    c .before .loop .inv .1 ∙ ap (countsFrom (a .s) (a .t1 .rows)) done ∙ from-start (a .s) (a .t1 .rows)
 
 pub counts-of-spec : {M : Type 1} → statement M
 counts-of-spec =

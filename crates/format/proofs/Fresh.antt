@@ -1,0 +1,50 @@
+-- Format gives consistent tables.
+use Prim.Native.Nat.{ℕ}
+use mathlib.Core.Path.{_≡_, refl, ap}
+use mathlib.Core.Bool.{Bool, true, _&&_}
+use mathlib.Core.List.{List}
+use Rattle.bits.specs.Bits.{within, has}
+use Rattle.lists.specs.Lists.{all, allFrom, count, keep, pairs, isEmpty, same, padded}
+use Rattle.lists.proofs.Tests.{and-both}
+use Rattle.records.specs.Slots.{isUsed, isDirectory, fileUsed, linkUsed, openUsed, fileAt}
+use Rattle.records.specs.Namespace.{bare, bareUsed, bareAt, namespace}
+use Rattle.names.specs.Names.{units, wellStored, validUnit, validFileName, validStreamName}
+use Rattle.sharing.specs.Sharing.{onStream, countsOf, countsOfAll}
+use Rattle.consistency.specs.Relations.{validMasks, linkTo, streamOf, unnamedOf, live, parentOf, reaches}
+use Rattle.consistency.specs.Test.{freeFile, sameBool, usedFile, filesTest, freeLink, usedLink, linkNamesDiffer, linksOfFile, linksTest, freeStream, usedStream, streamNamesDiffer, streamsOfFile, streamsTest, freeOpen, usedOpen, handlesDiffer, opensAgree, opensTest, sameCounts, countsTest, consistent}
+use Rattle.consistency.specs.Consistent.{Consistent}
+use Rattle.consistency.proofs.Equivalence.{consistent-sound}
+use Rattle.format.specs.Format.{rootFile, freshVolume, freshOpens}
+
+-- what the tests compute with
+tests : Unit {0}
+unfolding within has all allFrom count keep pairs isEmpty same padded isUsed isDirectory fileUsed linkUsed openUsed fileAt bareAt bare bareUsed namespace units wellStored validStreamName validFileName validUnit countsOf countsOfAll onStream linkTo streamOf unnamedOf live parentOf reaches freeFile sameBool usedFile filesTest freeLink usedLink linkNamesDiffer linksOfFile linksTest freeStream usedStream streamNamesDiffer streamsOfFile streamsTest freeOpen usedOpen handlesDiffer opensAgree opensTest sameCounts countsTest rootFile freshVolume
+tests = tt
+
+-- each table's test is computed, but for the root's masks
+module _ (masks : List ℕ) (readOnly : Bool) (valid : validMasks masks ≡ true) where
+  files-fresh : filesTest (freshVolume masks readOnly .files) ≡ true
+  unfolding tests
+  files-fresh = ap (λ (b : Bool). b && true) valid
+
+  links-fresh : linksTest (freshVolume masks readOnly .files) (freshVolume masks readOnly .links) ≡ true
+  unfolding tests
+  links-fresh = refl
+
+  streams-fresh : streamsTest (freshVolume masks readOnly .files) (namespace (freshVolume masks readOnly) .streams) ≡ true
+  unfolding tests
+  streams-fresh = refl
+
+  opens-fresh : opensTest (namespace (freshVolume masks readOnly) .streams) (freshVolume masks readOnly .«next_handle» .0) (freshOpens .rows) ≡ true
+  unfolding tests
+  opens-fresh = refl
+
+  counts-fresh : countsTest (freshVolume masks readOnly .streams) (freshOpens .rows) ≡ true
+  unfolding tests
+  counts-fresh = refl
+
+  pub fresh-consistent : Consistent (freshVolume masks readOnly) freshOpens
+  unfolding consistent
+  fresh-consistent =
+      consistent-sound (freshVolume masks readOnly) freshOpens
+      (and-both (and-both (and-both (and-both files-fresh links-fresh) streams-fresh) opens-fresh) counts-fresh)

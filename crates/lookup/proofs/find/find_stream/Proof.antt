@@ -1,0 +1,101 @@
+-- `lookup::find::find_stream` meets its contract. The invariant: the answer is what the rest of the table gives.
+use Prim.Native.Nat.{ℕ, _-_}
+use mathlib.Core.Path.{_≡_, sym, ap, _∙_}
+use mathlib.Core.Bool.{Bool}
+use mathlib.Core.List.{List}
+use mathlib.Core.Option.{Option}
+use native.Mathlib.Omega.{arith}
+use borrow.Author.Needs.{needs}
+use Rattle.lists.specs.Lists.{first}
+use Rattle.lists.proofs.Lookups.{answerFrom, answer-here, answer-next, answer-none, first-map}
+use Rattle.records.specs.Namespace.{namespace, bare}
+use Rattle.records.specs.declared.FileNo.{FileNo}
+use Rattle.records.specs.declared.Stream.{Stream}
+use Rattle.records.proofs.Lengths.{streams-length}
+use Rattle.lookup.specs.Lookup.{streamMatches, streamNumber, findStream}
+use Rattle.lookup.specs.Answers.{foundStream}
+use Rattle.lookup.specs.declared.FoundStream.{FoundStream}
+use Rattle.lookup.proofs.find.find_stream.Statement.{statement}
+use Rattle.lookup.proofs.find.find_stream.Tie as tie
+
+abbrev found : Option ℕ → FoundStream
+found n = foundStream (streamNumber n)
+
+abbrev matches : Bool → FileNo → List ℕ → Stream → Bool
+matches fold file name s = streamMatches fold file name (bare s)
+
+abbrev Inv-loop : tie.InvT-loop
+Inv-loop file name fold v i₀ i =
+    foundStream (findStream (namespace v) fold file name) ≡ answerFrom found (matches fold file name) (v .streams) i
+
+abbrev μ-loop : tie.MeasureT-loop
+μ-loop file name fold v i₀ i = 256 - i
+
+loop-holds : tie.Need-loop-holds Inv-loop μ-loop
+unfolding findStream first namespace
+loop-holds c =
+    let a = c .before .args in
+    ap found (first-map bare (streamMatches (a .fold) (a .file) (a .name .now)) (a .t1 .streams))
+
+mul-s : tie.Need-mul-s Inv-loop μ-loop
+mul-s c = search needs
+
+element-copy-out-s : tie.Need-element-copy-out-s Inv-loop μ-loop
+element-copy-out-s c = search needs
+
+stream-matches-requires : tie.Need-stream-matches-requires Inv-loop μ-loop
+stream-matches-requires c κs = search needs
+
+cast-t14 : tie.Need-cast-t14 Inv-loop μ-loop
+cast-t14 c = search needs
+
+returns : tie.Need-returns Inv-loop μ-loop
+unfolding foundStream streamNumber
+returns c =
+    let u = c .before in
+    let l = u .before .before .before in
+    let a = l .before .before in
+    let h = streams-length (a .args .t1) _ (a .good .0) in
+    sym
+    (l .loop .inv
+    ∙ answer-here found (matches (a .args .fold) (a .args .file) (a .args .name .now)) (a .args .t1 .streams) (l .loop .i) _ (omega arith) (u .stream-matches .ensures) (c .if1 .taken))
+
+add-i : tie.Need-add-i Inv-loop μ-loop
+add-i c = search needs
+
+loop-less : tie.Need-loop-less Inv-loop μ-loop
+loop-less c = search needs
+
+loop-again : tie.Need-loop-again Inv-loop μ-loop
+loop-again c =
+    let u = c .before in
+    let l = u .before .before .before in
+    let a = l .before .before in
+    let h = streams-length (a .args .t1) _ (a .good .0) in
+    l .loop .inv
+    ∙ answer-next found (matches (a .args .fold) (a .args .file) (a .args .name .now)) (a .args .t1 .streams) (l .loop .i) _ (omega arith) (u .stream-matches .ensures) (c .if1 .left)
+
+returns-2 : tie.Need-returns-2 Inv-loop μ-loop
+unfolding foundStream streamNumber
+returns-2 c =
+    let l = c .before in
+    let a = l .before .before in
+    let h = streams-length (a .args .t1) _ (a .good .0) in
+    sym (l .loop .inv ∙ answer-none found (matches (a .args .fold) (a .args .file) (a .args .name .now)) (a .args .t1 .streams) (l .loop .i) (omega arith))
+
+pub find-stream-spec : {M : Type 1} → statement M
+find-stream-spec =
+    tie.close
+    (tie.spec
+    Inv-loop
+    μ-loop
+    loop-holds
+    mul-s
+    element-copy-out-s
+    stream-matches-requires
+    cast-t14
+    returns
+    add-i
+    loop-less
+    loop-again
+    returns-2)

@@ -1,0 +1,55 @@
+// The walk through a path's components (step 6).
+use crate::FoundLink;
+use crate::Walked;
+use crate::find::find_link;
+use crate::find::link_matches;
+use names::Part;
+use names::next_component;
+use names::part_of;
+use names::units_before;
+use records::FileNo;
+use records::LinkNo;
+use records::Status;
+use records::Volume;
+use records::slots::is_directory;
+use records::tables::file_at;
+use records::tables::link_at;
+ghost use mathlib.Core.Path.{_≡_};
+ghost use Rattle.records.specs.Slots.{root};
+ghost use Rattle.records.specs.Namespace.{namespace};
+ghost use Rattle.names.specs.Positions.{partOf, parentsOf};
+ghost use Rattle.lookup.specs.Answers.{walkedFrom};
+
+// From the root through the components before `last`, each a directory, to the link that the directory has for `last`.
+pub fn walk_path(v: Volume, path: &[u16], last: Part, fold: bool) -> Walked
+    ensures { λ r. ⌜ r ≡ walkedFrom (namespace v) fold root (parentsOf (now (path .entry)) last) (partOf (now (path .entry)) last) ⌝ }
+{
+    let parents = units_before(path, last.start);
+    let name = part_of(path, last);
+    let mut dir = FileNo(0);
+    let mut at = 0;
+    'components: loop {
+        let part = next_component(parents, at);
+        if part.start == part.end {
+            let mut i: usize = 0;
+            while i < 192 {
+                let l = v.links[i];
+                if link_matches(l, dir, name, fold) {
+                    break 'components Walked::Link(LinkNo(i as u16));
+                }
+                i += 1;
+            }
+            break 'components Walked::Missing(dir);
+        }
+        let FoundLink::At(link) = find_link(v, dir, part_of(parents, part), fold) else {
+            return Walked::Refused(Status::ObjectPathNotFound);
+        };
+        let next = link_at(v, link).file;
+        let next_type = file_at(v, next).file_type;
+        if !is_directory(next_type) {
+            break 'components Walked::Refused(Status::ObjectPathNotFound);
+        }
+        dir = next;
+        at = part.end;
+    }
+}

@@ -1,9 +1,0 @@
-pub mod Facts
-pub mod Located
-pub mod Granted
-pub mod Requested
-pub mod Prepared
-pub mod Changes
-pub mod Opens
-pub mod Views
-pub mod Completed

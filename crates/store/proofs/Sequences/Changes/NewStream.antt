@@ -1,0 +1,119 @@
+-- The streams that step 12 makes: a named one of a data file, and the unnamed one of a new file.
+use Prim.Native.Nat.{ℕ, _+_}
+use mathlib.Core.Path.{_≡_, refl, sym, _∙_, ap}
+use mathlib.Core.Bool.{Bool, true, false}
+use mathlib.Core.List.{List, []}
+use mathlib.Core.Logic.{_≢_}
+use native.Mathlib.Decide.{ℕ-discrete}
+use Rattle.lists.specs.Lists.{all, count, isEmpty, padded}
+use Rattle.lists.proofs.Tests.{not-both}
+use Rattle.lists.proofs.Set.{one}
+use Rattle.lists.proofs.Slots.{refuted, count-none, one-before, one-added}
+use Rattle.records.specs.Sizes.{streamNameLimit}
+use Rattle.records.specs.Slots.{isUsed, isDirectory, fileUsed, fileAt}
+use Rattle.records.specs.Namespace.{BareStream, zeroBare, bareUsed, bareAt}
+use Rattle.records.specs.declared.FileType.{FileType}
+use Rattle.records.specs.declared.FileNo.{FileNo}
+use Rattle.records.specs.declared.StreamNo.{StreamNo}
+use Rattle.records.specs.declared.File.{File}
+use Rattle.names.specs.Names.{validStreamName, units}
+use Rattle.names.proofs.Padded.{stream-name-units, units-padded, padded-stored}
+use Rattle.consistency.specs.Relations.{streamOf, unnamedOf}
+use Rattle.consistency.specs.Consistent.{StreamsConsistent}
+use Rattle.consistency.proofs.Slots.{same-file}
+use Rattle.store.specs.Complete.{streamNew}
+use Rattle.store.proofs.Sequences.Changes.Files.{FileAdded, not-added, used-before}
+use Rattle.store.proofs.Sequences.Changes.Relations.{stream-used, stream-file, stream-of, unnamed-stream, unnamed-empty, unnamed-of}
+use Rattle.store.proofs.Sequences.Changes.Streams.{StreamSound}
+
+-- what a stream made for a file asks beside the counts
+pub record StreamMade (fs : List File) (ss : List BareStream) (f : FileNo) (type : FileType) (name : List ℕ) : Type 0 where
+  pub used : isUsed type ≡ true
+  pub agrees : type ≡ fileAt fs f .«file_type»
+  pub valid : validStreamName streamNameLimit name ≡ true
+  pub nameNew : (t : StreamNo) → bareUsed (bareAt ss t) ≡ true → bareAt ss t .file ≡ f → units (bareAt ss t .name) ≢ name
+
+module _ (fs : List File) (ss : List BareStream) (f : FileNo) (type : FileType) (name : List ℕ) (made : StreamMade fs ss f type name) where
+  pub made-used : bareUsed (streamNew f type name) ≡ true
+  unfolding streamNew bareUsed
+  made-used = made .used
+
+  made-units : units (padded streamNameLimit name) ≡ name
+  made-units = units-padded streamNameLimit name (stream-name-units streamNameLimit name (made .valid))
+
+  made-sound : ((g : FileNo) → fileUsed (fileAt fs g) ≡ true → count (unnamedOf g) ss + one (unnamedOf g (streamNew f type name)) ≡ 1)
+      → ((g : FileNo) → isDirectory (fileAt fs g .«file_type») ≡ true → count (streamOf g) ss + one (streamOf g (streamNew f type name)) ≡ 1)
+      → StreamSound fs ss (streamNew f type name)
+  unfolding streamNew fileUsed
+  made-sound unnamed directories =
+      record {
+        used = made-used;
+        stored = padded-stored streamNameLimit name (stream-name-units streamNameLimit name (made .valid));
+        valid = ap (validStreamName streamNameLimit) made-units ∙ made .valid;
+        fileThere = ap isUsed (sym (made .agrees)) ∙ made .used;
+        typeAgrees = made .agrees;
+        nameNew = λ t u e n. made .nameNew t u e (n ∙ made-units);
+        oneUnnamed = unnamed;
+        directoriesHaveOne = directories;
+      }
+
+  -- a named one of a file that is no directory
+  pub named-sound : StreamsConsistent fs ss → isEmpty name ≡ false → isDirectory type ≡ false → StreamSound fs ss (streamNew f type name)
+  unfolding streamNew isEmpty
+  named-sound h n d =
+      made-sound
+      (λ g u. one-before (h .oneUnnamed g u)
+      (refuted _ (λ e. not-both (ap isEmpty (sym made-units ∙ unnamed-empty g (streamNew f type name) e)) n)))
+      (λ g u. one-before (h .directoriesHaveOne g u)
+      (refuted _
+      (λ e.
+      not-both u
+      (ap (λ (x : FileNo). isDirectory (fileAt fs x .«file_type»)) (sym (stream-file g (streamNew f type name) e))
+      ∙ ap isDirectory (sym (made .agrees))
+      ∙ d))))
+
+-- the unnamed one of a file whose number was free
+module _ (fs gs : List File) (ss : List BareStream) (n : FileNo) (type : FileType) (h : StreamsConsistent fs ss)
+    (added : FileAdded fs gs n)
+    (agrees : type ≡ fileAt gs n .«file_type»)
+  where
+    pub no-stream : (t : StreamNo) → bareUsed (bareAt ss t) ≡ true → bareAt ss t .file ≡ n → ⊥
+    no-stream t u e = not-added added (bareAt ss t .file) (h .namesUsedFile t u) (ap (λ (f : FileNo). f .0) e)
+
+    unnamed : BareStream
+    unnamed = streamNew n type []
+
+    unnamed-made : StreamMade gs ss n type []
+    unfolding validStreamName all fileUsed
+    unnamed-made =
+        record { used = ap isUsed agrees ∙ added .there; agrees = agrees; valid = refl; nameNew = λ t u e z. no-stream t u e }
+
+    -- the new file has this stream, and every other one what it had
+    one-each : (p : FileNo → BareStream → Bool) → ((f : FileNo) (x : BareStream) → p f x ≡ true → streamOf f x ≡ true)
+        → p n unnamed ≡ true → (f : FileNo) → (f .0 ≢ n .0 → count (p f) ss ≡ 1) → count (p f) ss + one (p f unnamed) ≡ 1
+    unfolding unnamed streamNew bareAt
+    one-each p stream own f before = go (ℕ-discrete (f .0) (n .0))
+      where
+        go : Dec (f .0 ≡ n .0) → count (p f) ss + one (p f unnamed) ≡ 1
+        go (yes e) =
+            one-added
+            (count-none (p f) zeroBare ss
+            (λ i q.
+            let s = stream f _ q in
+            no-stream (record { 0 = i }) (stream-used f _ s) (stream-file f _ s ∙ same-file f n e)))
+            (ap (λ (g : FileNo). p g unnamed) (same-file f n e) ∙ own)
+        go (no e) =
+            one-before (before e)
+            (refuted _ (λ q. e (ap (λ (g : FileNo). g .0) (sym (stream-file f unnamed (stream f unnamed q))))))
+
+    pub unnamed-sound : StreamSound gs ss (streamNew n type [])
+    unfolding unnamed streamNew validStreamName all units
+    unnamed-sound =
+        let own = stream-of n unnamed (made-used gs ss n type [] unnamed-made) refl in
+        made-sound gs ss n type [] unnamed-made
+        (λ f u.
+        one-each unnamedOf unnamed-stream (unnamed-of n unnamed own (made-units gs ss n type [] unnamed-made)) f
+        (λ e. h .oneUnnamed f (used-before added f e u)))
+        (λ f u.
+        one-each streamOf (λ g x q. q) own f
+        (λ e. h .directoriesHaveOne f (ap (λ (x : File). isDirectory (x .«file_type»)) (sym (added .others f e)) ∙ u)))

@@ -1,0 +1,106 @@
+-- A stream that a data file gains: its placing leaves consistent names.
+use Prim.Native.Nat.{ℕ}
+use mathlib.Core.Path.{_≡_, refl, sym, _∙_, ap, subst}
+use mathlib.Core.Bool.{true, false}
+use mathlib.Core.List.{List, [], _∷_}
+use native.Mathlib.Omega.{arith}
+use lib.ListN.{set}
+use Rattle.lists.specs.Lists.{isEmpty, writes}
+use Rattle.lists.proofs.Tests.{empty-is}
+use Rattle.lists.proofs.Slots.{FreeSlot, refuted, count-none}
+use Rattle.records.specs.Slots.{isUsed, isDirectory, fileUsed, fileAt}
+use Rattle.records.specs.Namespace.{Namespace, BareStream, zeroBare, bareUsed, bareAt}
+use Rattle.records.specs.Checked.{passed}
+use Rattle.records.proofs.Checked.{passed-same, bind-passed}
+use Rattle.records.specs.declared.FileType.the-variants.{Data}
+use Rattle.records.specs.declared.FileNo.{FileNo}
+use Rattle.records.specs.declared.StreamNo.{StreamNo}
+use Rattle.records.specs.declared.File.{File}
+use Rattle.consistency.specs.Relations.{unnamedOf}
+use Rattle.consistency.proofs.Numbered.{file-in}
+use Rattle.store.specs.Prepare.{newStream}
+use Rattle.store.specs.Complete.{Placed, changed, attributeChange, withAttributes, streamNew, freeStream, place}
+use Rattle.store.proofs.Sequences.Facts.{NamesConsistent, StreamFits, PlacedWell}
+use Rattle.store.proofs.Sequences.Changes.Types.{is-data}
+use Rattle.store.proofs.Sequences.Changes.Attributes.{attributes-kept, same-types}
+use Rattle.store.proofs.Sequences.Changes.Free.{stream-free}
+use Rattle.store.proofs.Sequences.Changes.Relations.{stream-name-new, stream-used, stream-file, unnamed-stream, unnamed-empty}
+use Rattle.store.proofs.Sequences.Changes.Streams.{streams-with, stream-kept, stream-there}
+use Rattle.store.proofs.Sequences.Changes.NewStream.{StreamMade, made-used, named-sound}
+
+module _ (ns : Namespace) (f : FileNo) (a : ℕ) (name : List ℕ) (h : NamesConsistent ns) (fit : StreamFits ns f a name) where
+  is-used : fileUsed (fileAt (ns .files) f) ≡ true
+  unfolding fileUsed isUsed
+  is-used = ap isUsed (is-data _ (fit .attributes .dataFile))
+
+  -- the file's unnamed stream would match an empty name
+  named : isEmpty name ≡ false
+  unfolding bareAt
+  named =
+      refuted (isEmpty name)
+      (λ e.
+      let none-unnamed =
+      count-none (unnamedOf f) zeroBare (ns .streams)
+      (λ i q.
+      let s = unnamed-stream f _ q in
+      stream-name-new (fit .fold) f name (ns .streams) (fit .nameNew) (record { 0 = i }) (stream-used f _ s)
+      (stream-file f _ s)
+      (unnamed-empty f _ q ∙ sym (empty-is name e))) in
+      let z : ⊥ = omega (arith, none-unnamed, h .streams .oneUnnamed f is-used) in
+      z)
+
+  module _ (s : StreamNo) (slot : FreeSlot bareUsed zeroBare (ns .streams) (s .0)) where
+    new : BareStream
+    new = streamNew f Data name
+
+    files-after : List File
+    files-after = set (ns .files) (f .0) (withAttributes a (fileAt (ns .files) f))
+
+    made : StreamMade files-after (ns .streams) f Data name
+    unfolding files-after isUsed withAttributes
+    made =
+        record {
+          used = refl;
+          agrees =
+              sym
+              (same-types (ns .files) f _ (file-in (ns .files) f is-used) refl f
+              ∙ is-data _ (fit .attributes .dataFile));
+          valid = fit .nameValid;
+          nameNew = stream-name-new (fit .fold) f name (ns .streams) (fit .nameNew);
+        }
+
+    well : PlacedWell ns
+        (record {
+          change =
+              record {
+                files = (f, withAttributes a (fileAt (ns .files) f)) ∷ [];
+                links = [];
+                streams = (s, streamNew f Data name) ∷ [];
+              };
+          file = f;
+          stream = s;
+        })
+    unfolding new files-after changed attributeChange writes isDirectory bareAt streamNew
+    well =
+        let kept = attributes-kept ns f a h (fit .attributes) in
+        let there = stream-there (ns .streams) s new slot in
+        record {
+          after =
+              record {
+                files = kept .files;
+                links = kept .links;
+                streams =
+                    streams-with (ns .streams) s new slot files-after files-after (λ g u. refl) (kept .streams)
+                    (named-sound files-after (ns .streams) f Data name made (kept .streams) named refl);
+              };
+          kept = stream-kept (ns .streams) s new slot;
+          wasFree = slot .free;
+          streamUsed = ap bareUsed there ∙ made-used files-after (ns .streams) f Data name made;
+          streamFile = ap (λ (x : BareStream). x .file) there;
+        }
+
+  pub stream-placed : (p : Placed) → place ns (newStream f a name) ≡ passed p → PlacedWell ns p
+  unfolding place
+  stream-placed p e =
+      let q = bind-passed (freeStream ns 0) _ e in
+      subst (λ (r : Placed). PlacedWell ns r) (passed-same (q .2)) (well (q .0) (stream-free ns 0 (q .0) (q .1) .1))

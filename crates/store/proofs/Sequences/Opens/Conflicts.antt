@@ -1,0 +1,86 @@
+-- When no open of a list conflicts: sharing more makes no conflict, and a file without opens has none.
+use Prim.Native.Nat.{ℕ, _<_}
+use mathlib.Core.Path.{_≡_, refl, _∙_, ap, ap₂}
+use mathlib.Core.Bool.{Bool, true, false, not, _&&_, _||_, true≢false}
+use mathlib.Core.List.{List}
+use lib.Bits.{bitOr}
+use lib.Dec.{eqb}
+use lib.ListN.{length, getD}
+use borrow.Author.Tests.{eq-eqb, ne-eqb}
+use Rattle.bits.proofs.Sets.{has-or}
+use Rattle.lists.specs.Lists.{any}
+use Rattle.lists.proofs.Tests.{not-both, or-neither}
+use Rattle.lists.proofs.All.{any-of}
+use Rattle.lists.proofs.PairsPerm.{none-too, kept-each, none-of}
+use Rattle.records.specs.Slots.{zeroOpen, openUsed}
+use Rattle.records.specs.Namespace.{BareStream, zeroBare, bareAt}
+use Rattle.records.specs.declared.FileNo.{FileNo}
+use Rattle.records.specs.declared.StreamNo.{StreamNo}
+use Rattle.records.specs.declared.Open.{Open}
+use Rattle.sharing.specs.Sharing.{Kind, reading, writing, deleting, shareBit, anyKind, holds, shares, counted, conflict, onStream, anyConflict}
+use Rattle.consistency.specs.Relations.{live}
+use Rattle.consistency.specs.Consistent.{openAt, OpensConsistent}
+use Rattle.store.specs.Store.{anyOnFile}
+
+and-none : (a : Bool) {b c : Bool} → (b ≡ false → c ≡ false) → (a && b) ≡ false → (a && c) ≡ false
+and-none true i h = i h
+and-none false i h = refl
+
+no-kind : (p q : Kind → Bool) → ((k : Kind) → p k ≡ false → q k ≡ false) → anyKind p ≡ false → anyKind q ≡ false
+unfolding anyKind
+no-kind p q i h =
+    let r = or-neither (p reading || p writing) (p deleting) h in
+    let s = or-neither (p reading) (p writing) (r .0) in
+    ap₂ (λ (a b : Bool). a || b)
+    (ap₂ (λ (a b : Bool). a || b) (i reading (s .0)) (i writing (s .1)))
+    (i deleting (r .1))
+
+module _ (more : ℕ) where
+  -- over a kind: h that the other holds it, s that this one shares it, x the rest of the pair rule
+  over-more : (h s m x : Bool) → ((h && not s) || x) ≡ false → ((h && not (s || m)) || x) ≡ false
+  over-more true true m x e = e
+  over-more true false m x e = absurd (true≢false e)
+  over-more false s m x e = e
+
+  shares-more : (k : Kind) (share : ℕ) → shares k (bitOr share more) ≡ (shares k share || shares k more)
+  unfolding shares
+  shares-more k share = has-or share more (shareBit k)
+
+  conflict-more : (g s g′ s′ : ℕ) → conflict g s g′ s′ ≡ false → conflict g s g′ (bitOr s′ more) ≡ false
+  unfolding conflict
+  conflict-more g s g′ s′ =
+      and-none (counted g && counted g′)
+      (no-kind _ _
+      (λ k e. rw (shares-more k s′) (over-more (holds k g) (shares k s′) (shares k more) (holds k g′ && not (shares k s)) e)))
+
+  -- an open that shares more conflicts with no more
+  pub share-more : (s : StreamNo) (granted share : ℕ) (os : List Open) → anyConflict s granted share os ≡ false
+      → anyConflict s granted (bitOr share more) os ≡ false
+  unfolding anyConflict
+  share-more s granted share os =
+      none-too _ _ (λ o. and-none (onStream s o) (conflict-more (o .granted) (o .share) granted share)) os
+
+-- each open's file is its stream's, and none is on the stream's file: none is on the stream
+pub none-on-file : (bs : List BareStream) (s : StreamNo) (granted share : ℕ) (os : List Open)
+    → ((i : ℕ) → i < length os → openAt os i .file ≡ bareAt bs (openAt os i .stream) .file)
+    → anyOnFile (bareAt bs s .file) os ≡ false → anyConflict s granted share os ≡ false
+unfolding anyOnFile anyConflict any onStream bareAt
+none-on-file bs s granted share os f h =
+    none-of (λ o. onStream s o && conflict (o .granted) (o .share) granted share) zeroOpen os
+    (λ i b.
+    ap (λ (a : Bool). a && conflict (openAt os i .granted) (openAt os i .share) granted share)
+    (ne-eqb (openAt os i .stream .0) (s .0)
+    (λ e.
+    not-both
+    (any-of (λ o. eqb (o .file .0) (bareAt bs s .file .0)) zeroOpen os i b
+    (eq-eqb (openAt os i .file .0) (bareAt bs s .file .0)
+    (ap (λ (x : FileNo). x .0) (f i b) ∙ ap (λ (n : ℕ). getD bs n zeroBare .file .0) e)))
+    h)))
+
+pub none-on-file-live : {bs : List BareStream} {next : ℕ} {os : List Open} → OpensConsistent bs next os
+    → (s : StreamNo) (granted share : ℕ)
+    → anyOnFile (bareAt bs s .file) (live os) ≡ false → anyConflict s granted share (live os) ≡ false
+unfolding live
+none-on-file-live {bs} {next} {os} c s granted share =
+    none-on-file bs s granted share (live os)
+    (kept-each openUsed zeroOpen (λ o. o .file ≡ bareAt bs (o .stream) .file) os (c .namesItsFile))

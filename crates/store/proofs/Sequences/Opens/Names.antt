@@ -1,0 +1,71 @@
+-- Opens come and go and the names stay; a change of the volume is the change of its names.
+use mathlib.Core.Bool.{true}
+use Prim.Native.Nat.{_<_}
+use mathlib.Core.Path.{_≡_, refl, ap}
+use mathlib.Core.List.{List, map}
+use native.Mathlib.Omega.{arith}
+use lib.ListN.{length, length-map, List·getD-map}
+use lib.Seq.{map-set-same}
+use Rattle.lists.specs.Lists.{writes}
+use Rattle.lists.proofs.Writes.{map-writes}
+use Rattle.records.specs.Slots.{zeroStream, streamAt}
+use Rattle.records.specs.Namespace.{Namespace, BareStream, bareUsed, bareAt, bare, withCounts, namespace}
+use Rattle.records.specs.declared.StreamNo.{StreamNo}
+use Rattle.records.specs.declared.ShareCounts.{ShareCounts}
+use Rattle.records.specs.declared.Stream.{Stream}
+use Rattle.records.specs.declared.Open.{Open}
+use Rattle.records.specs.declared.Volume.{Volume}
+use Rattle.sharing.specs.Sharing.{withOpen, withoutOpen}
+use Rattle.consistency.proofs.Streams.{stream-in}
+use Rattle.store.specs.Complete.{Change, changed}
+use Rattle.store.specs.Store.{freshStream, changedVolume, recount, volumeWithOpen, volumeWithoutOpen}
+
+-- a stream of the volume, without its counts, is that of its names
+pub bare-at : (ss : List Stream) (s : StreamNo) → bareAt (map bare ss) s ≡ bare (streamAt ss s)
+unfolding bareAt streamAt bare
+bare-at ss s = List·getD-map bare ss (s .0) zeroStream
+
+-- a used stream stands below the end
+pub used-below : (ss : List Stream) (s : StreamNo) → bareUsed (bareAt (map bare ss) s) ≡ true → s .0 < length ss
+used-below ss s u = omega (arith, stream-in (map bare ss) s u, length-map ss bare)
+
+pub recount-bare : (f : ShareCounts → ShareCounts) (s : StreamNo) (ss : List Stream) → map bare (recount f s ss) ≡ map bare ss
+unfolding recount streamAt bare withCounts
+recount-bare f s ss = map-set-same bare ss (s .0) _ zeroStream refl
+
+-- names are equal where their streams are, all else being the volume's
+same-streams : (v : Volume) {ss : List BareStream} → ss ≡ map bare (v .streams)
+    → Path Namespace (record { readOnly = v .«read_only»; files = v .files; links = v .links; streams = ss }) (namespace v)
+unfolding namespace
+same-streams v e =
+    ap
+    (λ (bs : List BareStream).
+    record { readOnly = v .«read_only»; files = v .files; links = v .links; streams = bs })
+    e
+
+pub with-open-names : (o : Open) (v : Volume) → namespace (volumeWithOpen o v) ≡ namespace v
+unfolding namespace volumeWithOpen
+with-open-names o v = same-streams v (recount-bare _ (o .stream) (v .streams))
+
+pub without-open-names : (o : Open) (v : Volume) → namespace (volumeWithoutOpen o v) ≡ namespace v
+unfolding namespace volumeWithoutOpen
+without-open-names o v = same-streams v (recount-bare _ (o .stream) (v .streams))
+
+-- the streams that a change writes, without their counts
+pub fresh-bare : (ws : List (StreamNo × BareStream)) (ss : List Stream)
+    → map bare (writes (λ (n : StreamNo). n .0) (map freshStream ws) ss) ≡ writes (λ (n : StreamNo). n .0) ws (map bare ss)
+unfolding freshStream bare withCounts
+fresh-bare ws ss = map-writes (λ (n : StreamNo). n .0) bare freshStream (λ w. refl) (λ w. refl) ws ss
+
+pub changed-names : (c : Change) (v : Volume) → namespace (changedVolume c v) ≡ changed c (namespace v)
+unfolding namespace changedVolume changed
+changed-names c v =
+    ap
+    (λ (bs : List BareStream).
+    record {
+      readOnly = v .«read_only»;
+      files = writes (λ n. n .0) (c .files) (v .files);
+      links = writes (λ n. n .0) (c .links) (v .links);
+      streams = bs;
+    })
+    (fresh-bare (c .streams) (v .streams))

@@ -1,0 +1,132 @@
+-- What steps 1 and 2 leave of a request's numbers, and the numbers that steps 9 and 11 make of them.
+use Prim.Native.Nat.{ℕ, _≤_}
+use mathlib.Core.Path.{_≡_, refl, sym, _∙_, ap, ap₂}
+use mathlib.Core.Bool.{Bool, true, false, cond, not, _&&_, _||_}
+use mathlib.Core.List.{List, [], _∷_}
+use mathlib.Core.Logic.{_≢_}
+use lib.Bits.{bitAnd, bitOr}
+use lib.Dec.{eqb, ltb}
+use borrow.Author.Tests.{eqb-false, not-false, ltb-false}
+use native.Mathlib.Omega.{arith}
+use Rattle.bits.specs.Bits.{within, has, without}
+use Rattle.bits.proofs.Sets.{within-iff, within-trans, within-mono, within-less, within-or, within-and-l, within-and-r, within-split, within-self, has-or, has-subset, has-iff-false, has-meets, without-clears}
+use Rattle.lists.specs.Lists.{oneOf}
+use Rattle.lists.proofs.Tests.{or-neither}
+use Rattle.records.specs.Constants.{supersede, overwrite, overwriteIf, appendData, directory, archive, notContentIndexed, allAccess, maximumAllowed}
+use Rattle.records.specs.Slots.{isDirectory}
+use Rattle.records.specs.declared.FileType.the-variants.{Data, Directory}
+use Rattle.records.specs.declared.File.{File}
+use Rattle.records.specs.declared.Request.{Request}
+use Rattle.store.specs.Request.{wantsDirectory, badParameters, badAccess}
+use Rattle.store.specs.Prepare.{grantedNew, newType, attributesNew}
+
+pub record RequestFits (r : Request) : Type 0 where
+  pub accessNonzero : r .access ≢ 0
+  pub accessWithin : within (r .access) (bitOr allAccess maximumAllowed) ≡ true
+  pub shareAtMost : r .share ≤ 7
+  pub attributesWithin : within (r .attributes) 0x31A7 ≡ true
+
+pub requested : (r : Request) → badParameters r ≡ false → badAccess r ≡ false → RequestFits r
+unfolding badParameters badAccess
+requested r p q =
+    let a = ltb 7 (r .account) in
+    let b = ltb 7 (r .share) in
+    let c = ltb 5 (r .disposition) in
+    let d = not (within (r .options) 0x2004F) in
+    let e = not (within (r .attributes) 0x31A7) in
+    let f = not (within (r .access) 0x0FFFFFFF) in
+    let g = has (r .options) 0x8 && has (r .access) appendData in
+    let h =
+    wantsDirectory r && (has (r .options) 0x2000C || oneOf (r .disposition) (supersede ∷ overwrite ∷ overwriteIf ∷ [])) in
+    let p7 = or-neither (a || b || c || d || e || f || g) h p in
+    let p6 = or-neither (a || b || c || d || e || f) g (p7 .0) in
+    let p5 = or-neither (a || b || c || d || e) f (p6 .0) in
+    let p4 = or-neither (a || b || c || d) e (p5 .0) in
+    let p3 = or-neither (a || b || c) d (p4 .0) in
+    let p2 = or-neither (a || b) c (p3 .0) in
+    let p1 = or-neither a b (p2 .0) in
+    let q2 = or-neither (eqb (r .access) 0 || has (r .access) 0x0CE0FE00) (has (r .access) 0x01000000) q in
+    let q1 = or-neither (eqb (r .access) 0) (has (r .access) 0x0CE0FE00) (q2 .0) in
+    record {
+      accessNonzero = eqb-false (r .access) 0 (q1 .0);
+      accessWithin =
+          within-split (r .access) 0x021F01FF 0x01000000
+          (within-split (r .access) 0x031F01FF 0x0CE0FE00 (not-false (within (r .access) 0x0FFFFFFF) (p5 .1)) (q1 .1))
+          (q2 .1);
+      shareAtMost = ltb-false 7 (r .share) (p1 .1);
+      attributesWithin = not-false (within (r .attributes) 0x31A7) (p4 .1);
+    }
+
+-- step 9's granted access
+pub granted-new : (r : Request) → RequestFits r → (grantedNew (r .access) ≢ 0) × (within (grantedNew (r .access)) allAccess ≡ true)
+unfolding grantedNew
+granted-new r fits = go (has (r .access) maximumAllowed) refl
+  where
+    go : (b : Bool) → has (r .access) maximumAllowed ≡ b
+        → (cond b allAccess (r .access) ≢ 0) × (within (cond b allAccess (r .access)) allAccess ≡ true)
+    go true e = (λ z. omega arith, within-self allAccess)
+    go false e = (fits .accessNonzero, within-split (r .access) allAccess maximumAllowed (fits .accessWithin) e)
+
+-- the attributes of steps 9 and 11: within 0x3137, and with 0x10 exactly for a directory
+pub record Attributes (isDir : Bool) (a : ℕ) : Type 0 where
+  pub inRange : within a 0x3137 ≡ true
+  pub directoryBit : has a directory ≡ isDir
+
+-- step 11: asked plus 0x20 minus 0x2080
+pub replaced : (r : Request) → RequestFits r → Attributes false (without (bitOr (r .attributes) archive) 0x2080)
+replaced r fits =
+    let a = bitOr (r .attributes) archive in
+    let w : within a 0x31A7 ≡ true =
+    within-or (r .attributes) archive 0x31A7 (fits .attributesWithin) (within-iff archive 0x31A7 .1 refl) in
+    let n : within (without a 0x2080) 0x1127 ≡ true =
+    within-split (without a 0x2080) 0x1127 0x2080 (within-less a 0x31A7 0x2080 w) (without-clears a 0x2080) in
+    record {
+      inRange = within-mono (without a 0x2080) 0x1127 0x3137 n refl;
+      directoryBit = has-subset (without a 0x2080) 0x1127 directory n (has-iff-false 0x1127 directory .1 refl);
+    }
+
+-- a union of attributes
+joined : (x y : ℕ) (c d : Bool) → Attributes c x → Attributes d y → Attributes (c || d) (bitOr x y)
+joined x y c d h k =
+    record {
+      inRange = within-or x y 0x3137 (h .inRange) (k .inRange);
+      directoryBit = has-or x y directory ∙ ap₂ (λ (p q : Bool). p || q) (h .directoryBit) (k .directoryBit);
+    }
+
+-- a part of a mask without 0x10
+part-of : (x m : ℕ) → within x m ≡ true → bitAnd m 0x3137 ≡ m → bitAnd m directory ≡ 0 → Attributes false x
+part-of x m w i z =
+    record {
+      inRange = within-mono x m 0x3137 w i;
+      directoryBit = has-subset x m directory w (has-iff-false m directory .1 z);
+    }
+
+-- step 11: a file gains 0x20
+pub archived : (a : ℕ) → Attributes false a → Attributes false (bitOr a archive)
+archived a h = joined a archive false false h (part-of archive archive (within-self archive) refl refl)
+
+-- step 9: the bit of the new file's type
+directory-kind : Attributes (isDirectory Directory) directory
+unfolding isDirectory
+directory-kind = record { inRange = within-iff directory 0x3137 .1 refl; directoryBit = has-meets directory directory (λ e. omega arith) }
+
+file-kind : Attributes (isDirectory Data) archive
+unfolding isDirectory
+file-kind = part-of archive archive (within-self archive) refl refl
+
+pub attributes-new : (r : Request) (parent : File) → Attributes (isDirectory (newType r)) (attributesNew r parent)
+unfolding attributesNew newType
+attributes-new r parent =
+    let asked = bitAnd (r .attributes) 0x3127 in
+    let inherited = bitAnd (parent .attributes) notContentIndexed in
+    let front =
+    joined (without asked notContentIndexed) inherited false false
+    (part-of (without asked notContentIndexed) 0x3127
+    (within-less asked 0x3127 notContentIndexed (within-and-r (r .attributes) 0x3127)) refl refl)
+    (part-of inherited notContentIndexed (within-and-r (parent .attributes) notContentIndexed) refl refl) in
+    joined (bitOr (without asked notContentIndexed) inherited) (cond (wantsDirectory r) directory archive) false
+    (isDirectory (cond (wantsDirectory r) Directory Data)) front (kind (wantsDirectory r))
+  where
+    kind : (b : Bool) → Attributes (isDirectory (cond b Directory Data)) (cond b directory archive)
+    kind true = directory-kind
+    kind false = file-kind
