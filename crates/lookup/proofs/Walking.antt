@@ -6,20 +6,20 @@ use mathlib.Core.Bool.{Bool, true, false}
 use mathlib.Core.List.{List, [], _∷_}
 use mathlib.Core.Option.{Option, none, some}
 use lib.ListN.{drop}
-use Rattle.records.specs.Slots.{isDirectory, fileAt, linkAt}
+use Rattle.records.specs.Slots.{root, isDirectory, fileAt, linkAt}
 use Rattle.records.specs.Namespace.{Namespace}
-use Rattle.records.specs.Checked.{_>>=_}
+use Rattle.records.specs.Checked.{Checked, refused, passed, _>>=_}
 use Rattle.records.specs.declared.Status.the-variants.{ObjectPathNotFound}
 use Rattle.records.specs.declared.FileNo.{FileNo}
 use Rattle.records.specs.declared.LinkNo.{LinkNo}
-use Rattle.names.specs.Paths.{components}
+use Rattle.names.specs.Paths.{Leaf, components}
 use Rattle.names.specs.Positions.{nextComponent, partOf}
 use Rattle.names.proofs.Places.{next-found, next-none}
-use Rattle.lookup.specs.Lookup.{findLink, stepInto, descend}
+use Rattle.lookup.specs.Lookup.{findLink, stepInto, descend, Place, found, missing, placeOf, locateLeaf, locate}
 use Rattle.lookup.specs.Answers.{foundLink, lastStep, walkEnds, walkedFrom}
 use Rattle.lookup.specs.declared.FoundLink.the-variants.{At, Missing}
 use Rattle.lookup.specs.declared.Walked.{Walked}
-use Rattle.lookup.specs.declared.Walked.the-variants.{Refused}
+use Rattle.lookup.specs.declared.Walked.the-variants as End
 
 -- what the code's answer says of the definition's
 
@@ -41,7 +41,7 @@ module _ (ns : Namespace) (fold : Bool) (dir : FileNo) (name : List ℕ) where
   ends = refl
 
   module _ (component : List ℕ) (rest : List (List ℕ)) where
-    lost : findLink ns fold dir component ≡ none → walkedFrom ns fold dir (component ∷ rest) name ≡ Refused ObjectPathNotFound
+    lost : findLink ns fold dir component ≡ none → walkedFrom ns fold dir (component ∷ rest) name ≡ End.Refused ObjectPathNotFound
     unfolding walkedFrom walkEnds descend stepInto _>>=_
     lost e = rw (e, descend)
 
@@ -52,7 +52,7 @@ module _ (ns : Namespace) (fold : Bool) (dir : FileNo) (name : List ℕ) where
       into e = rw (found, e)
 
       barred : isDirectory (fileAt (ns .files) (linkAt (ns .links) l .file) .«file_type») ≡ false
-          → walkedFrom ns fold dir (component ∷ rest) name ≡ Refused ObjectPathNotFound
+          → walkedFrom ns fold dir (component ∷ rest) name ≡ End.Refused ObjectPathNotFound
       unfolding walkedFrom walkEnds descend stepInto _>>=_
       barred e = rw (found, e)
 
@@ -72,7 +72,7 @@ module _ (ns : Namespace) (fold : Bool) (dir : FileNo) (name parents : List ℕ)
     abbrev rest : List (List ℕ)
     rest = components (drop (nextComponent parents at .end) parents)
 
-    pub walk-lost : findLink ns fold dir component ≡ none → walkLeft ≡ Refused ObjectPathNotFound
+    pub walk-lost : findLink ns fold dir component ≡ none → walkLeft ≡ End.Refused ObjectPathNotFound
     walk-lost e = rw (next-found parents at more) (lost ns fold dir name component rest e)
 
     module _ (l : LinkNo) (found : findLink ns fold dir component ≡ some l) where
@@ -81,5 +81,25 @@ module _ (ns : Namespace) (fold : Bool) (dir : FileNo) (name parents : List ℕ)
       walk-into e = rw (next-found parents at more) (into ns fold dir name component rest l found e)
 
       pub walk-barred : isDirectory (fileAt (ns .files) (linkAt (ns .links) l .file) .«file_type») ≡ false
-          → walkLeft ≡ Refused ObjectPathNotFound
+          → walkLeft ≡ End.Refused ObjectPathNotFound
       walk-barred e = rw (next-found parents at more) (barred ns fold dir name component rest l found e)
+
+-- where the walk leads
+
+unfoldable pub placeFrom : Namespace → Leaf → Walked → Checked Place
+placeFrom ns leaf (End.Link l) = passed (found (linkAt (ns .links) l .file))
+placeFrom ns leaf (End.Missing dir) = passed (missing dir (leaf .file) (leaf .stream))
+placeFrom ns leaf (End.Refused s) = refused s
+
+pub walk-leads : (ns : Namespace) (fold : Bool) (parents : List (List ℕ)) (leaf : Leaf)
+    → placeFrom ns leaf (walkedFrom ns fold root parents (leaf .file)) ≡ locate ns fold (record { parents = parents; leaf = some leaf })
+unfolding placeFrom walkedFrom walkEnds lastStep locate locateLeaf placeOf _>>=_
+walk-leads ns fold parents leaf = go (descend ns fold root parents)
+  where
+    step : (dir : FileNo) (o : Option LinkNo) → placeFrom ns leaf (lastStep dir o) ≡ passed (placeOf ns dir leaf o)
+    step dir none = refl
+    step dir (some l) = refl
+
+    go : (d : Checked FileNo) → placeFrom ns leaf (walkEnds ns fold (leaf .file) d) ≡ (d >>= λ dir. passed (locateLeaf ns fold dir (some leaf)))
+    go (refused s) = refl
+    go (passed dir) = step dir (findLink ns fold dir (leaf .file))

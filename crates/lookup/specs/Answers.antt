@@ -1,18 +1,25 @@
 -- What the definitions answer, as the code's answers.
 use Prim.Native.Nat.{ℕ}
-use mathlib.Core.Bool.{Bool}
-use mathlib.Core.List.{List}
+use mathlib.Core.Bool.{Bool, false}
+use mathlib.Core.List.{List, []}
 use mathlib.Core.Option.{Option, none, some}
 use Rattle.records.specs.Namespace.{Namespace}
-use Rattle.records.specs.Checked.{Checked, refused, passed}
+use Rattle.records.specs.Checked.{Checked, refused, passed, _>>=_}
 use Rattle.records.specs.declared.FileNo.{FileNo}
 use Rattle.records.specs.declared.LinkNo.{LinkNo}
 use Rattle.records.specs.declared.StreamNo.{StreamNo}
-use Rattle.lookup.specs.Lookup.{findLink, descend}
+use Rattle.names.specs.Paths.{Path, Leaf}
+use Rattle.names.specs.Positions.{asLeaf, asPath, parentsOf}
+use Rattle.names.specs.declared.LeafParts.{LeafParts}
+use Rattle.names.specs.declared.ParsedPath.{ParsedPath}
+use Rattle.names.specs.declared.ParsedPath.the-variants.{Invalid, Root, Named}
+use Rattle.lookup.specs.Lookup.{findLink, descend, Place, found, missing, locate}
 use Rattle.lookup.specs.declared.FoundLink.{FoundLink}
 use Rattle.lookup.specs.declared.FoundLink.the-variants as Link
 use Rattle.lookup.specs.declared.FoundStream.{FoundStream}
 use Rattle.lookup.specs.declared.FoundStream.the-variants as Stream
+use Rattle.lookup.specs.declared.Located.{Located}
+use Rattle.lookup.specs.declared.Located.the-variants as Located
 use Rattle.lookup.specs.declared.Walked.{Walked}
 use Rattle.lookup.specs.declared.Walked.the-variants as End
 
@@ -36,3 +43,25 @@ walkEnds ns fold name (passed dir) = lastStep dir (findLink ns fold dir name)
 -- the walk from a directory through the components before the last, and the last component's name
 unfoldable pub walkedFrom : Namespace → Bool → FileNo → List (List ℕ) → List ℕ → Walked
 walkedFrom ns fold dir parents name = walkEnds ns fold name (descend ns fold dir parents)
+
+-- the path that its last component's places stand for
+abbrev pub pathTo : List ℕ → LeafParts → Path
+pathTo path l = record { parents = parentsOf path (l .file); leaf = some (asLeaf path l) }
+
+-- the last component's names; a path without one has none, and is never missing
+unfoldable pub leafNames : List ℕ → ParsedPath → Leaf
+leafNames path Invalid = record { file = []; stream = []; colon = false }
+leafNames path Root = record { file = []; stream = []; colon = false }
+leafNames path (Named l) = asLeaf path l
+
+-- where a parsed path leads
+unfoldable pub locateParsed : Namespace → Bool → List ℕ → ParsedPath → Checked Place
+locateParsed ns fold path parsed = do
+  p ← asPath path parsed
+  locate ns fold p
+
+-- the code's answer, as the definition's: the names that are missing are the last component's
+unfoldable pub asPlace : Leaf → Located → Checked Place
+asPlace leaf (Located.Found f) = passed (found f)
+asPlace leaf (Located.Missing dir) = passed (missing dir (leaf .file) (leaf .stream))
+asPlace leaf (Located.Refused s) = refused s

@@ -9,6 +9,7 @@ use records::FileNo;
 use records::LinkNo;
 use records::Status;
 use records::StreamNo;
+pub use walk::locate;
 pub use walk::walk_path;
 
 // What a search for a stream finds.
@@ -26,6 +27,13 @@ pub enum FoundLink {
 // Where the walk ends: at the last component's link, in a directory that lacks its name, or at a refusal.
 pub enum Walked {
     Link(LinkNo),
+    Missing(FileNo),
+    Refused(Status),
+}
+
+// Where a path leads: to a file, to a directory that lacks its last name, or to a refusal.
+pub enum Located {
+    Found(FileNo),
     Missing(FileNo),
     Refused(Status),
 }

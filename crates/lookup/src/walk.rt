@@ -1,8 +1,11 @@
 // The walk through a path's components (step 6).
 use crate::FoundLink;
+use crate::Located;
 use crate::Walked;
 use crate::find::find_link;
 use crate::find::link_matches;
+use names::LeafParts;
+use names::ParsedPath;
 use names::Part;
 use names::next_component;
 use names::part_of;
@@ -17,8 +20,9 @@ use records::tables::link_at;
 ghost use mathlib.Core.Path.{_≡_};
 ghost use Rattle.records.specs.Slots.{root};
 ghost use Rattle.records.specs.Namespace.{namespace};
-ghost use Rattle.names.specs.Positions.{partOf, parentsOf};
-ghost use Rattle.lookup.specs.Answers.{walkedFrom};
+ghost use Rattle.names.specs.Positions.{partOf, parentsOf, asLeaf};
+ghost use Rattle.lookup.specs.Lookup.{locate};
+ghost use Rattle.lookup.specs.Answers.{walkedFrom, asPlace, pathTo, leafNames, locateParsed};
 
 // From the root through the components before `last`, each a directory, to the link that the directory has for `last`.
 pub fn walk_path(v: Volume, path: &[u16], last: Part, fold: bool) -> Walked
@@ -51,5 +55,32 @@ pub fn walk_path(v: Volume, path: &[u16], last: Part, fold: bool) -> Walked
         }
         dir = next;
         at = part.end;
+    }
+}
+
+// Where a path with a last component leads.
+fn locate_leaf(v: Volume, path: &[u16], leaf: LeafParts, fold: bool) -> Located
+    ensures { λ r. ⌜ asPlace (asLeaf (now (path .entry)) leaf) r ≡ locate (namespace v) fold (pathTo (now (path .entry)) leaf) ⌝ }
+{
+    let last = leaf.file;
+    let walked = walk_path(v, path, last, fold);
+    match walked {
+        Walked::Link(link) => {
+            let file = link_at(v, link).file;
+            Located::Found(file)
+        }
+        Walked::Missing(dir) => Located::Missing(dir),
+        Walked::Refused(status) => Located::Refused(status),
+    }
+}
+
+// Where a parsed path leads. An invalid one keeps its refusal.
+pub fn locate(v: Volume, path: &[u16], parsed: ParsedPath, fold: bool) -> Located
+    ensures { λ r. ⌜ asPlace (leafNames (now (path .entry)) parsed) r ≡ locateParsed (namespace v) fold (now (path .entry)) parsed ⌝ }
+{
+    match parsed {
+        ParsedPath::Invalid => Located::Refused(Status::ObjectNameInvalid),
+        ParsedPath::Root => Located::Found(FileNo(0)),
+        ParsedPath::Named(leaf) => locate_leaf(v, path, leaf, fold),
     }
 }

@@ -1,0 +1,45 @@
+-- `lookup::walk::locate` meets its contract.
+use mathlib.Core.Path.{_≡_}
+use borrow.Author.Needs.{needs}
+use Rattle.records.specs.Checked.{_>>=_}
+use Rattle.names.specs.Positions.{asPath}
+use Rattle.lookup.specs.Lookup.{descend, locateLeaf, locate}
+use Rattle.lookup.specs.Answers.{leafNames, asPlace, locateParsed}
+use Rattle.lookup.proofs.walk.locate.Statement.{statement}
+use Rattle.lookup.proofs.walk.locate.Tie as tie
+
+enum-told : tie.Need-enum-told
+enum-told c = search needs
+
+enum-told-2 : tie.Need-enum-told-2
+enum-told-2 c = search needs
+
+enum-known-parsed : tie.Need-enum-known-parsed
+enum-known-parsed c = search needs
+
+locate-leaf-requires : tie.Need-locate-leaf-requires
+locate-leaf-requires c κs = search needs
+
+returns : tie.Need-returns
+unfolding asPlace leafNames locateParsed asPath _>>=_
+returns c = rw (c .enum-told .given .1)
+
+returns-2 : tie.Need-returns-2
+unfolding asPlace leafNames locateParsed asPath descend locateLeaf locate _>>=_
+returns-2 c = rw (c .enum-told2 .given .1)
+
+returns-3 : tie.Need-returns-3
+unfolding leafNames locateParsed asPath _>>=_
+returns-3 c = rw (c .before .before .parsed .given .1) (c .locate-leaf .ensures)
+
+pub locate-spec : {M : Type 1} → statement M
+locate-spec =
+    tie.close
+    (tie.spec
+    enum-told
+    enum-told-2
+    enum-known-parsed
+    locate-leaf-requires
+    returns
+    returns-2
+    returns-3)

@@ -1,0 +1,76 @@
+-- `lookup::walk::locate_leaf` meets its contract: each end of the walk, as the place that it leads to.
+use mathlib.Core.Path.{_≡_, sym, ap, _∙_}
+use borrow.Author.Needs.{needs}
+use Rattle.records.specs.Namespace.{namespace}
+use Rattle.records.specs.Checked.{passed}
+use Rattle.records.specs.declared.Link.{Link}
+use Rattle.names.specs.Positions.{asLeaf, parentsOf}
+use Rattle.lookup.specs.Lookup.{found, locate}
+use Rattle.lookup.specs.Answers.{pathTo, asPlace}
+use Rattle.lookup.proofs.Walking.{placeFrom, walk-leads}
+use Rattle.lookup.proofs.walk.locate_leaf.Statement.{statement}
+use Rattle.lookup.proofs.walk.locate_leaf.Tie as tie
+
+leads : (w : tie.After-walk-path)
+    → let s = w .before .before .before .args in
+    placeFrom (namespace (s .v)) (asLeaf (s .path .now) (s .leaf)) (w .walk-path .result) ≡ locate (namespace (s .v)) (s .fold) (pathTo (s .path .now) (s .leaf))
+unfolding asLeaf
+leads w =
+    let s = w .before .before .before .args in
+    let leaf = asLeaf (s .path .now) (s .leaf) in
+    ap (placeFrom (namespace (s .v)) leaf) (w .walk-path .ensures)
+    ∙ walk-leads (namespace (s .v)) (s .fold) (parentsOf (s .path .now) (s .leaf .file)) leaf
+
+walk-path-requires : tie.Need-walk-path-requires
+walk-path-requires c κs = search needs
+
+enum-known-walked : tie.Need-enum-known-walked
+enum-known-walked c = search needs
+
+link-at-requires : tie.Need-link-at-requires
+link-at-requires c κs = search needs
+
+enum-known-walked-2 : tie.Need-enum-known-walked-2
+enum-known-walked-2 c = search needs
+
+enum-known-walked-3 : tie.Need-enum-known-walked-3
+enum-known-walked-3 c = search needs
+
+returns : tie.Need-returns
+unfolding asPlace placeFrom namespace
+returns c =
+    let k = c .before .before .before in
+    let w = k .before .before in
+    let s = w .before .before .before .args in
+    ap (λ (l : Link). passed (found (l .file))) (c .before .link-at .ensures)
+    ∙ ap (placeFrom (namespace (s .v)) (asLeaf (s .path .now) (s .leaf))) (sym (k .walked .given .1))
+    ∙ leads w
+
+returns-2 : tie.Need-returns-2
+unfolding asPlace placeFrom
+returns-2 c =
+    let k = c .before in
+    let w = k .before .before in
+    let s = w .before .before .before .args in
+    ap (placeFrom (namespace (s .v)) (asLeaf (s .path .now) (s .leaf))) (sym (k .walked2 .given .1)) ∙ leads w
+
+returns-3 : tie.Need-returns-3
+unfolding asPlace placeFrom
+returns-3 c =
+    let k = c .before in
+    let w = k .before .before in
+    let s = w .before .before .before .args in
+    ap (placeFrom (namespace (s .v)) (asLeaf (s .path .now) (s .leaf))) (sym (k .walked3 .given .1)) ∙ leads w
+
+pub locate-leaf-spec : {M : Type 1} → statement M
+locate-leaf-spec =
+    tie.close
+    (tie.spec
+    walk-path-requires
+    enum-known-walked
+    link-at-requires
+    enum-known-walked-2
+    enum-known-walked-3
+    returns
+    returns-2
+    returns-3)
