@@ -1,20 +1,20 @@
 // Names and paths: how units compare, which names are valid, how a stored name is read, and how a path is taken apart
 // (step 4 of an open).
-mod paths;
 mod audit;
 mod audit_streams;
+mod paths;
 mod stored;
 mod units;
 mod valid;
 
-pub use paths::next_component;
-pub use paths::parse_path;
-pub use paths::part_of;
-pub use paths::units_before;
 pub use audit::valid_stored_name;
 pub use audit_streams::is_unnamed;
 pub use audit_streams::valid_stored_stream_name;
 pub use audit_streams::zero_name;
+pub use paths::next_component;
+pub use paths::parse_path;
+pub use paths::part_of;
+pub use paths::units_before;
 pub use stored::name_equals;
 pub use stored::name_length;
 pub use stored::same_names;
