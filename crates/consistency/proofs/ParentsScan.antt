@@ -21,7 +21,6 @@ use Rattle.records.specs.declared.File.{File}
 use Rattle.records.specs.declared.Link.{Link}
 use Rattle.consistency.specs.Relations.{linkTo, parentOf, reaches}
 use Rattle.consistency.specs.Test.{freeLink, usedLink, linksOfFile}
-use Rattle.consistency.proofs.Conjunctions.{parts4}
 use Rattle.consistency.proofs.Slots.{same-file}
 use Rattle.consistency.proofs.Numbered.{file-in, directory-file}
 use Rattle.consistency.proofs.Parents.{link-to-used, links-kept, reaches-kept}
@@ -98,9 +97,11 @@ module _ (fs : List File) where
   parent-there l u h =
       file-in fs (l .parent)
       (directory-file fs (l .parent)
-      (parts4 (wellStored fileNameLimit (l .name)) (validFileName fileNameLimit (units (l .name)))
-      (fileUsed (fileAt fs (l .file))) (isDirectory (fileAt fs (l .parent) .«file_type»))
-      (sym (cond-true (usedLink fs l) (freeLink l) u) ∙ h) .3))
+      (and-right
+      (wellStored fileNameLimit (l .name)
+      && validFileName fileNameLimit (units (l .name))
+      && fileUsed (fileAt fs (l .file)))
+      (isDirectory (fileAt fs (l .parent) .«file_type»)) (sym (cond-true (usedLink fs l) (freeLink l) u) ∙ h)))
 
   pub parent-in : (ls : List Link) → all (slotTest fs) ls ≡ true → (f : FileNo) → f .0 < length fs → parentOf ls f .0 < length fs
   unfolding all parentOf

@@ -2,6 +2,8 @@
 use records::OpenTable;
 use records::ShareCounts;
 use records::Volume;
+use records::sizes::OPEN_SLOTS;
+use records::sizes::STREAM_SLOTS;
 use records::slots::open_used;
 use records::slots::zero_counts;
 use sharing::with_open;
@@ -27,17 +29,17 @@ fn same_counts(c: ShareCounts, d: ShareCounts) -> bool
 
 // The counts of every stream, from the table of opens: the last row first, as each row comes in front of those counted. A
 // row that names no slot of the streams table is in none of them.
-fn counts_of_streams(t: OpenTable) -> [ShareCounts; 256]
+fn counts_of_streams(t: OpenTable) -> [ShareCounts; STREAM_SLOTS]
     ensures { λ r. ⌜ ((n : ℕ) → n < 256 → getD r n zeroCounts ≡ countsOf (record { 0 = n }) (live (t .rows))) ⌝ }
 {
     let none = zero_counts();
-    let mut counts = [none; 256];
-    let mut i: usize = 256;
+    let mut counts = [none; STREAM_SLOTS];
+    let mut i: usize = OPEN_SLOTS;
     while 0 < i {
         i -= 1;
         let o = t.rows[i];
         let n = o.stream.0 as usize;
-        if open_used(o) && n < 256 {
+        if open_used(o) && n < STREAM_SLOTS {
             let before = counts[n];
             let after = with_open(o, before);
             counts[n] = after;
@@ -51,7 +53,7 @@ pub fn counts_true(v: Volume, t: OpenTable) -> bool
 {
     let counts = counts_of_streams(t);
     let mut i: usize = 0;
-    while i < 256 {
+    while i < STREAM_SLOTS {
         let s = v.streams[i];
         let kept = s.counts;
         let found = counts[i];

@@ -4,6 +4,8 @@ use records::OpenTable;
 use records::Stream;
 use records::Volume;
 use records::constants::ALL_ACCESS;
+use records::sizes::OPEN_SLOTS;
+use records::sizes::STREAM_SLOTS;
 use records::slots::open_used;
 use records::slots::stream_used;
 ghost use mathlib.Core.Path.{_≡_};
@@ -73,11 +75,11 @@ fn all_rows_agree(t: OpenTable) -> bool
     ensures { λ r. ⌜ r ≡ pairs (λ o q. handlesDiffer o q && opensAgree o q) (live (t .rows)) ⌝ }
 {
     let mut i: usize = 0;
-    while i < 256 {
+    while i < OPEN_SLOTS {
         let o = t.rows[i];
         if open_used(o) {
             let mut j = i + 1;
-            while j < 256 {
+            while j < OPEN_SLOTS {
                 let q = t.rows[j];
                 if open_used(q) && !rows_agree(o, q) {
                     return false;
@@ -99,10 +101,10 @@ pub fn opens_consistent(v: Volume, t: OpenTable) -> bool
         return false;
     }
     let mut i: usize = 0;
-    while i < 256 {
+    while i < OPEN_SLOTS {
         let o = t.rows[i];
         let n = o.stream.0 as usize;
-        if 256 <= n {
+        if STREAM_SLOTS <= n {
             return false;
         }
         let s = v.streams[n];

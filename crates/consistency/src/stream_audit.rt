@@ -8,6 +8,8 @@ use records::File;
 use records::FileType;
 use records::Stream;
 use records::Volume;
+use records::sizes::FILE_SLOTS;
+use records::sizes::STREAM_SLOTS;
 use records::slots::file_used;
 use records::slots::is_directory;
 use records::slots::is_used;
@@ -27,8 +29,8 @@ ghost use Rattle.consistency.specs.Test.{sameBool, freeStream, usedStrea
 
 // Of each file, how many streams it has and how many of them have the empty name.
 struct FileStreams {
-    all: [u16; 128],
-    unnamed: [u16; 128],
+    all: [u16; FILE_SLOTS],
+    unnamed: [u16; FILE_SLOTS],
 }
 
 // A free slot is all zero.
@@ -79,10 +81,10 @@ fn slots_consistent(v: Volume) -> bool
     ensures { λ r. ⌜ r ≡ all (λ s. cond (bareUsed s) (usedStream (v .files) s) (freeStream s)) (namespace v .streams) ⌝ }
 {
     let mut i: usize = 0;
-    while i < 256 {
+    while i < STREAM_SLOTS {
         let s = v.streams[i];
         let n = s.file.0 as usize;
-        if 128 <= n {
+        if FILE_SLOTS <= n {
             return false;
         }
         let f = v.files[n];
@@ -112,11 +114,11 @@ fn names_differ(v: Volume) -> bool
     ensures { λ r. ⌜ r ≡ pairs streamNamesDiffer (keep bareUsed (namespace v .streams)) ⌝ }
 {
     let mut i: usize = 0;
-    while i < 256 {
+    while i < STREAM_SLOTS {
         let s = v.streams[i];
         if stream_used(s) {
             let mut j = i + 1;
-            while j < 256 {
+            while j < STREAM_SLOTS {
                 let q = v.streams[j];
                 if stream_used(q) && !streams_differ(s, q) {
                     return false;
@@ -143,13 +145,13 @@ fn streams_of_files(v: Volume) -> FileStreams
         → (getD (r .all) n 0 ≡ count (streamOf (record { 0 = n })) (keep bareUsed (namespace v .streams)))
         × (getD (r .unnamed) n 0 ≡ count (unnamedOf (record { 0 = n })) (keep bareUsed (namespace v .streams)))) ⌝ }
 {
-    let mut all = [0u16; 128];
-    let mut unnamed = [0u16; 128];
+    let mut all = [0u16; FILE_SLOTS];
+    let mut unnamed = [0u16; FILE_SLOTS];
     let mut i: usize = 0;
-    while i < 256 {
+    while i < STREAM_SLOTS {
         let s = v.streams[i];
         let n = s.file.0 as usize;
-        if stream_used(s) && n < 128 {
+        if stream_used(s) && n < FILE_SLOTS {
             let one = one_if_unnamed(s);
             all[n] = all[n] + 1;
             unnamed[n] = unnamed[n] + one;
@@ -173,7 +175,7 @@ fn files_consistent(v: Volume) -> bool
 {
     let found = streams_of_files(v);
     let mut i: usize = 0;
-    while i < 128 {
+    while i < FILE_SLOTS {
         let f = v.files[i];
         let all = found.all[i];
         let unnamed = found.unnamed[i];
