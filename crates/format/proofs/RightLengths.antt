@@ -10,6 +10,7 @@ use denote.Laws.{Is}
 use borrow.Author.Tests.{eq-eqb}
 use Rattle.lists.specs.Lists.{all}
 use Rattle.lists.proofs.All.{all-of}
+use Rattle.lists.proofs.Tests.{and-both}
 use Rattle.records.specs.Sizes.{fileSlots, linkSlots, streamSlots, openSlots, fileNameLimit, streamNameLimit, accounts}
 use Rattle.records.specs.Slots.{zeroFile, zeroLink, zeroStream}
 use Rattle.records.specs.declared.Volume.{Volume}
@@ -18,7 +19,6 @@ use Rattle.records.proofs.Lengths.{masks-length, link-name-length, stream-name-
 use Rattle.records.proofs.Elements.{file-holds, link-holds, stream-holds}
 use Rattle.records.proofs.Volume as VolumeT
 use Rattle.records.proofs.OpenTable as OpenTableT
-use Rattle.consistency.proofs.Conjunctions.{whole7}
 use Rattle.format.specs.Format.{rightLengths}
 
 module _ (v : Volume) (vs : List Val) (good : Is VolumeT.the-row v vs) where
@@ -49,7 +49,12 @@ module _ (v : Volume) (vs : List Val) (good : Is VolumeT.the-row v vs) where
   pub right-lengths : (t : OpenTable) (ts : List Val) → Is OpenTableT.the-row t ts → rightLengths v t ≡ true
   unfolding rightLengths
   right-lengths t ts rows =
-      whole7 (eq-eqb (length (v .files)) fileSlots (files-length v vs good))
-      (eq-eqb (length (v .links)) linkSlots (links-length v vs good))
-      (eq-eqb (length (v .streams)) streamSlots (streams-length v vs good))
-      (eq-eqb (length (t .rows)) openSlots (rows-length t ts rows)) all-masks all-link-names all-stream-names
+      and-both
+      (and-both
+      (and-both
+      (and-both
+      (and-both
+      (and-both (eq-eqb (length (v .files)) fileSlots (files-length v vs good))
+      (eq-eqb (length (v .links)) linkSlots (links-length v vs good)))
+      (eq-eqb (length (v .streams)) streamSlots (streams-length v vs good)))
+      (eq-eqb (length (t .rows)) openSlots (rows-length t ts rows))) all-masks) all-link-names) all-stream-names

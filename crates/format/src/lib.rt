@@ -1,5 +1,5 @@
 // Format: fresh tables with the root alone.
-use consistency::file_audit::valid_masks;
+use audit::file_audit::valid_masks;
 use records::Answer;
 use records::File;
 use records::FileNo;
