@@ -12,18 +12,12 @@ use lib.Dec.{eqb}
 use lib.ListN.{length, getD, drop, drop-of-length-le}
 use lib.Seq.{drop-cons}
 use borrow.Author.Tests.{eq-eqb, ne-eqb, eqb-true}
-use Rattle.lists.specs.Lists.{all, any, keep, firstFrom, same, oneOf}
+use Rattle.lists.specs.Lists.{all, keep, same}
 
 module _ {A : Type 0} where
   -- what is left at place i, by its first element
   pub drop-next : (xs : List A) (i : ℕ) (d : A) → i < length xs → drop i xs ≡ getD xs i d ∷ drop (i + 1) xs
   drop-next xs i d h = rw add-one (drop-cons xs i d h)
-
-  -- below the length the default does not matter
-  pub getD-default : (xs : List A) (i : ℕ) (d e : A) → i < length xs → getD xs i d ≡ getD xs i e
-  getD-default [] i d e h = absurd (not-suc-le-zero h)
-  getD-default (x ∷ xs) zero d e h = refl
-  getD-default (x ∷ xs) (suc i) d e h = getD-default xs i d e (le-of-suc-le-suc h)
 
   pub drop-map : {B : Type 0} (f : A → B) (i : ℕ) (xs : List A) → drop i (map f xs) ≡ map f (drop i xs)
   drop-map f zero xs = refl
@@ -54,49 +48,6 @@ module _ {A : Type 0} (p : A → Bool) (xs : List A) (i : ℕ) where
   pub all-end : length xs ≤ i → all p (drop i xs) ≡ true
   unfolding all
   all-end h = rw (drop-of-length-le xs h)
-
-  -- any
-
-  pub any-here : (d : A) → i < length xs → p (getD xs i d) ≡ true → any p (drop i xs) ≡ true
-  unfolding any
-  any-here d h e = rw (drop-next xs i d h, e)
-
-  pub any-next : (d : A) → i < length xs → p (getD xs i d) ≡ false → any p (drop i xs) ≡ any p (drop (i + 1) xs)
-  unfolding any
-  any-next d h e = rw (drop-next xs i d h, e)
-
-  pub any-end : length xs ≤ i → any p (drop i xs) ≡ false
-  unfolding any
-  any-end h = rw (drop-of-length-le xs h)
-
-  -- the first place that passes
-
-  pub first-here : (d : A) → i < length xs → p (getD xs i d) ≡ true → firstFrom p (drop i xs) i ≡ some i
-  unfolding firstFrom
-  first-here d h e = rw (drop-next xs i d h, e, firstFrom)
-
-  pub first-next : (d : A) → i < length xs → p (getD xs i d) ≡ false → firstFrom p (drop i xs) i ≡ firstFrom p (drop (i + 1) xs) (i + 1)
-  unfolding firstFrom
-  first-next d h e = rw (drop-next xs i d h, e, firstFrom) (ap (firstFrom p (drop (i + 1) xs)) (sym (add-one i)))
-
-  pub first-end : length xs ≤ i → firstFrom p (drop i xs) i ≡ none
-  unfolding firstFrom
-  first-end h = rw (drop-of-length-le xs h)
-
--- one of the numbers listed: the laws of any, at the test for x
-
-module _ (x : ℕ) (ys : List ℕ) (i : ℕ) where
-  pub oneOf-here : (d : ℕ) → i < length ys → x ≡ getD ys i d → oneOf x (drop i ys) ≡ true
-  unfolding oneOf
-  oneOf-here d h e = any-here (eqb x) ys i d h (eq-eqb x (getD ys i d) e)
-
-  pub oneOf-next : (d : ℕ) → i < length ys → (x ≡ getD ys i d → ⊥) → oneOf x (drop i ys) ≡ oneOf x (drop (i + 1) ys)
-  unfolding oneOf
-  oneOf-next d h e = any-next (eqb x) ys i d h (ne-eqb x (getD ys i d) e)
-
-  pub oneOf-end : length ys ≤ i → oneOf x (drop i ys) ≡ false
-  unfolding oneOf
-  oneOf-end h = any-end (eqb x) ys i h
 
 -- two lists of numbers
 
@@ -131,23 +82,6 @@ same-lengths (x ∷ xs) (y ∷ ys) ne = go (eqb x y) (same-lengths xs ys (λ e. 
     go : (b : Bool) → same xs ys ≡ false → b && same xs ys ≡ false
     go true tail = tail
     go false tail = refl
-
--- the test and the equation say the same
-pub same-refl : (xs : List ℕ) → same xs xs ≡ true
-unfolding same
-same-refl [] = refl
-same-refl (x ∷ xs) = rw (eq-eqb x x refl) (same-refl xs)
-
-pub same-equal : (xs ys : List ℕ) → same xs ys ≡ true → xs ≡ ys
-unfolding same
-same-equal [] [] e = refl
-same-equal [] (y ∷ ys) e = cc
-same-equal (x ∷ xs) [] e = cc
-same-equal (x ∷ xs) (y ∷ ys) e = go (eqb x y) refl e (same-equal xs ys)
-  where
-    go : (b : Bool) → eqb x y ≡ b → b && same xs ys ≡ true → (same xs ys ≡ true → xs ≡ ys) → x ∷ xs ≡ y ∷ ys
-    go true head tail rest = cc (eqb-true x y head, rest tail)
-    go false head tail rest = cc
 
 -- lists that start alike are compared by what follows
 pub same-append : (xs ys zs : List ℕ) → same (xs ++ ys) (xs ++ zs) ≡ same ys zs

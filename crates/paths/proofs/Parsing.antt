@@ -10,7 +10,7 @@ use lib.ListN.{length, getD, take, drop, length-drop}
 use lib.Seq.{slice, slice-empty, drop-cons, take-all}
 use borrow.Author.Tests.{eqb-true, ltb-true, ltb-false}
 use Rattle.lists.specs.Lists.{all, isEmpty}
-use Rattle.lists.proofs.Scan.{same-equal}
+use Rattle.lists.proofs.Tests.{same-is}
 use Rattle.names.specs.Units.{colon, dataType, upper, folded, equalUnits}
 use Rattle.paths.specs.Paths.{Leaf, split, leafOf, endsIn}
 use Rattle.paths.specs.Positions.{leading, noSign, placeOf}
@@ -98,7 +98,7 @@ no-colon (u ∷ us) h = go (eqb u colon) refl (no-colon us)
 
 data-type : (t : List ℕ) → equalUnits true t dataType ≡ true → length t ≤ leading (noSign colon) t
 unfolding equalUnits all folded upper
-data-type t e = no-colon t (rw (same-equal (map (folded true) t) (map (folded true) dataType) e))
+data-type t e = no-colon t (rw (same-is (map (folded true) t) (map (folded true) dataType) e))
 
 pub leaf-type : (f s t : List ℕ) → leafOf (f ∷ s ∷ split colon t) ≡ cond (equalUnits true t dataType) (some (record { file = f; stream = s; colon = true })) none
 unfolding leafOf

@@ -59,28 +59,3 @@ module _ (more : ℕ) where
   unfolding anyConflict
   share-more s granted share os =
       none-too _ _ (λ o. and-none (onStream s o) (conflict-more (o .granted) (o .share) granted share)) os
-
--- each open's file is its stream's, and none is on the stream's file: none is on the stream
-pub none-on-file : (bs : List BareStream) (s : StreamNo) (granted share : ℕ) (os : List Open)
-    → ((i : ℕ) → i < length os → openAt os i .file ≡ bareAt bs (openAt os i .stream) .file)
-    → anyOnFile (bareAt bs s .file) os ≡ false → anyConflict s granted share os ≡ false
-unfolding anyOnFile anyConflict any onStream bareAt
-none-on-file bs s granted share os f h =
-    none-of (λ o. onStream s o && conflict (o .granted) (o .share) granted share) zeroOpen os
-    (λ i b.
-    ap (λ (a : Bool). a && conflict (openAt os i .granted) (openAt os i .share) granted share)
-    (ne-eqb (openAt os i .stream .0) (s .0)
-    (λ e.
-    not-both
-    (any-of (λ o. eqb (o .file .0) (bareAt bs s .file .0)) zeroOpen os i b
-    (eq-eqb (openAt os i .file .0) (bareAt bs s .file .0)
-    (ap (λ (x : FileNo). x .0) (f i b) ∙ ap (λ (n : ℕ). getD bs n zeroBare .file .0) e)))
-    h)))
-
-pub none-on-file-live : {bs : List BareStream} {next : ℕ} {os : List Open} → OpensConsistent bs next os
-    → (s : StreamNo) (granted share : ℕ)
-    → anyOnFile (bareAt bs s .file) (live os) ≡ false → anyConflict s granted share (live os) ≡ false
-unfolding live
-none-on-file-live {bs} {next} {os} c s granted share =
-    none-on-file bs s granted share (live os)
-    (kept-each openUsed zeroOpen (λ o. o .file ≡ bareAt bs (o .stream) .file) os (c .namesItsFile))
