@@ -23,8 +23,8 @@ pub fn link_matches(l: Link, dir: FileNo, name: &[u16], fold: bool) -> bool
     if l.parent.0 != dir.0 {
         return false;
     }
-    let stored = l.name;
-    name_equals(stored, name, fold)
+    let link_name = l.name;
+    name_equals(link_name, name, fold)
 }
 
 // Whether a stream is the file's, under the name.
@@ -37,8 +37,8 @@ pub fn stream_matches(s: Stream, file: FileNo, name: &[u16], fold: bool) -> bool
     if s.file.0 != file.0 {
         return false;
     }
-    let stored = s.name;
-    name_equals(stored, name, fold)
+    let stream_name = s.name;
+    name_equals(stream_name, name, fold)
 }
 
 pub fn find_link(v: Volume, dir: FileNo, name: &[u16], fold: bool) -> FoundLink
@@ -48,7 +48,8 @@ pub fn find_link(v: Volume, dir: FileNo, name: &[u16], fold: bool) -> FoundLink
     while i < 192 {
         let l = v.links[i];
         if link_matches(l, dir, name, fold) {
-            return FoundLink::At(LinkNo(i as u16));
+            let link = i as u16;
+            return FoundLink::At(LinkNo(link));
         }
         i += 1;
     }
@@ -62,7 +63,8 @@ pub fn find_stream(v: Volume, file: FileNo, name: &[u16], fold: bool) -> FoundSt
     while i < 256 {
         let s = v.streams[i];
         if stream_matches(s, file, name, fold) {
-            return FoundStream::At(StreamNo(i as u16));
+            let stream = i as u16;
+            return FoundStream::At(StreamNo(stream));
         }
         i += 1;
     }

@@ -39,7 +39,8 @@ pub fn walk_path(v: Volume, path: &[u16], last: Part, fold: bool) -> Walked
             while i < 192 {
                 let l = v.links[i];
                 if link_matches(l, dir, name, fold) {
-                    break 'components Walked::Link(LinkNo(i as u16));
+                    let found = i as u16;
+                    break 'components Walked::Link(LinkNo(found));
                 }
                 i += 1;
             }
