@@ -1,10 +1,16 @@
 pub mod Slots
 pub mod Numbered
 pub mod Files
+pub mod FilesScan
 pub mod Parents
 pub mod Links
+pub mod LinksScan
+pub mod ParentsScan
 pub mod Streams
 pub mod Opens
 pub mod Counts
 pub mod Equivalence
 pub mod Derived
+pub mod OpensScan
+pub mod CountsScan
+pub mod StreamsScan

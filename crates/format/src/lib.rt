@@ -1,1 +1,89 @@
-// Format: fresh tables with the root alone. So far only its definition.
+// Format: fresh tables with the root alone.
+use consistency::file_audit::valid_masks;
+use records::Answer;
+use records::File;
+use records::FileNo;
+use records::FileType;
+use records::Handle;
+use records::OpenTable;
+use records::Outcome;
+use records::Status;
+use records::Stream;
+use records::Volume;
+use records::constants::DIRECTORY;
+use records::slots::zero_counts;
+use records::slots::zero_file;
+use records::slots::zero_link;
+use records::slots::zero_open;
+use records::slots::zero_stream;
+ghost use mathlib.Core.Path.{_≡_};
+ghost use Rattle.format.specs.Format as definitions;
+
+// File 0.
+fn root_file(masks: [u32; 8]) -> File
+    ensures { λ r. ⌜ r ≡ definitions.rootFile masks ⌝ }
+{
+    File {
+        file_type: FileType::Directory,
+        attributes: DIRECTORY,
+        masks,
+    }
+}
+
+// Its stream.
+fn root_stream() -> Stream
+    ensures { λ r. ⌜ r ≡ definitions.rootStream ⌝ }
+{
+    Stream {
+        file: FileNo(0),
+        stream_type: FileType::Directory,
+        name: [0; 32],
+        counts: zero_counts(),
+    }
+}
+
+fn fresh_volume(masks: [u32; 8], read_only: bool) -> Volume
+    ensures { λ r. ⌜ r ≡ definitions.freshVolume masks «read_only» ⌝ }
+{
+    let mut files = [zero_file(); 128];
+    files[0] = root_file(masks);
+    let links = [zero_link(); 192];
+    let mut streams = [zero_stream(); 256];
+    streams[0] = root_stream();
+    Volume {
+        read_only,
+        next_handle: Handle(1),
+        files,
+        links,
+        streams,
+    }
+}
+
+fn fresh_opens() -> OpenTable
+    ensures { λ r. ⌜ r ≡ definitions.freshOpens ⌝ }
+{
+    let rows = [zero_open(); 256];
+    OpenTable { rows }
+}
+
+// Tables by value have the right lengths, so only the masks decide.
+pub fn format(v: Volume, t: OpenTable, masks: [u32; 8], read_only: bool) -> Answer
+    ensures { λ r. ⌜ r ≡ definitions.format v t masks «read_only» ⌝ }
+{
+    if !valid_masks(masks) {
+        return Answer {
+            outcome: Outcome::Refused(Status::InvalidParameter),
+            granted: 0,
+            volume: v,
+            opens: t,
+        };
+    }
+    let volume = fresh_volume(masks, read_only);
+    let opens = fresh_opens();
+    Answer {
+        outcome: Outcome::Done,
+        granted: 0,
+        volume,
+        opens,
+    }
+}

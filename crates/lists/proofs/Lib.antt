@@ -4,6 +4,8 @@ pub mod All
 pub mod Keep
 pub mod Pairs
 pub mod Find
+pub mod Scan
+pub mod Passes
 pub mod First
 pub mod Set
 pub mod Slots
@@ -13,5 +15,5 @@ pub mod Permutations
 pub mod PairsPerm
 pub mod Pigeonhole
 pub mod Writes
-pub mod Scan
+pub mod Sweeps
 pub mod Lookups

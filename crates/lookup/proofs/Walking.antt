@@ -12,9 +12,9 @@ use Rattle.records.specs.Checked.{Checked, refused, passed, _>>=_}
 use Rattle.records.specs.declared.Status.the-variants.{ObjectPathNotFound}
 use Rattle.records.specs.declared.FileNo.{FileNo}
 use Rattle.records.specs.declared.LinkNo.{LinkNo}
-use Rattle.names.specs.Paths.{Leaf, components}
-use Rattle.names.specs.Positions.{nextComponent, partOf}
-use Rattle.names.proofs.Places.{next-found, next-none}
+use Rattle.paths.specs.Paths.{Leaf, components}
+use Rattle.paths.specs.Positions.{nextComponent, partOf}
+use Rattle.paths.proofs.Places.{next-found, next-none}
 use Rattle.lookup.specs.Lookup.{findLink, stepInto, descend, Place, found, missing, placeOf, locateLeaf, locate}
 use Rattle.lookup.specs.Answers.{foundLink, lastStep, walkEnds, walkedFrom}
 use Rattle.lookup.specs.declared.FoundLink.the-variants.{At, Missing}

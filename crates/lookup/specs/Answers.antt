@@ -8,11 +8,11 @@ use Rattle.records.specs.Checked.{Checked, refused, passed, _>>=_}
 use Rattle.records.specs.declared.FileNo.{FileNo}
 use Rattle.records.specs.declared.LinkNo.{LinkNo}
 use Rattle.records.specs.declared.StreamNo.{StreamNo}
-use Rattle.names.specs.Paths.{Path, Leaf}
-use Rattle.names.specs.Positions.{asLeaf, asPath, parentsOf}
-use Rattle.names.specs.declared.LeafParts.{LeafParts}
-use Rattle.names.specs.declared.ParsedPath.{ParsedPath}
-use Rattle.names.specs.declared.ParsedPath.the-variants.{Invalid, Root, Named}
+use Rattle.paths.specs.Paths.{Path, Leaf}
+use Rattle.paths.specs.Positions.{asLeaf, asPath, parentsOf}
+use Rattle.paths.specs.declared.LeafParts.{LeafParts}
+use Rattle.paths.specs.declared.ParsedPath.{ParsedPath}
+use Rattle.paths.specs.declared.ParsedPath.the-variants.{Invalid, Root, Named}
 use Rattle.lookup.specs.Lookup.{findLink, descend, Place, found, missing, locate}
 use Rattle.lookup.specs.declared.FoundLink.{FoundLink}
 use Rattle.lookup.specs.declared.FoundLink.the-variants as Link

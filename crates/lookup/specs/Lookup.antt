@@ -15,7 +15,7 @@ use Rattle.records.specs.declared.StreamNo.{StreamNo}
 use Rattle.records.specs.declared.Link.{Link}
 use Rattle.names.specs.Units.{equalUnits}
 use Rattle.names.specs.Names.{units}
-use Rattle.names.specs.Paths.{Path, Leaf}
+use Rattle.paths.specs.Paths.{Path, Leaf}
 
 -- a link of the directory whose name matches. A path's names are never empty, so no free slot matches one
 unfoldable pub linkMatches : Bool → FileNo → List ℕ → Link → Bool

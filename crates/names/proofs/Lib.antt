@@ -1,11 +1,5 @@
-pub mod Parsed
 pub mod Padded
 pub mod Compare
 pub mod NameUnits
 pub mod ValidNames
-pub mod Leading
-pub mod Splitting
-pub mod Places
-pub mod Parsing
-pub mod Judging
-pub mod Walk
+pub mod StoredUnits

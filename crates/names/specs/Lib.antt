@@ -1,4 +1,2 @@
 pub mod Units
 pub mod Names
-pub mod Paths
-pub mod Positions

@@ -8,25 +8,39 @@ use Rattle.records.specs.Slots.{fileUsed, linkUsed, streamUsed, openUsed
 use Rattle.records.specs.declared.FileNo.{FileNo}
 use Rattle.records.specs.declared.Volume.{Volume}
 use Rattle.records.specs.declared.OpenTable.{OpenTable}
-use Rattle.records.specs.declared.free.Slot.{Slot}
-use Rattle.records.specs.declared.free.Slot.the-variants.{At, Full}
+use Rattle.records.specs.declared.free.FileSlot.{FileSlot}
+use Rattle.records.specs.declared.free.LinkSlot.{LinkSlot}
+use Rattle.records.specs.declared.free.StreamSlot.{StreamSlot}
+use Rattle.records.specs.declared.free.OpenSlot.{OpenSlot}
 
--- a search's place, as the code's answer
-unfoldable pub slotOf : Option ℕ → Slot
-slotOf none = Full
-slotOf (some n) = At n
+-- the place that a search finds, as the code answers it
+unfoldable pub fileSlot : Option ℕ → FileSlot
+fileSlot none = FileSlot.Full
+fileSlot (some n) = FileSlot.At (record { 0 = n })
 
-unfoldable pub freeFile : Volume → Slot
-freeFile v = slotOf (firstAfter (λ f. not (fileUsed f)) 0 (v .files))
+unfoldable pub linkSlot : Option ℕ → LinkSlot
+linkSlot none = LinkSlot.Full
+linkSlot (some n) = LinkSlot.At (record { 0 = n })
 
-unfoldable pub freeLink : Volume → Slot
-freeLink v = slotOf (firstAfter (λ l. not (linkUsed l)) 0 (v .links))
+unfoldable pub streamSlot : Option ℕ → StreamSlot
+streamSlot none = StreamSlot.Full
+streamSlot (some n) = StreamSlot.At (record { 0 = n })
 
-unfoldable pub freeStream : Volume → ℕ → Slot
-freeStream v from = slotOf (firstAfter (λ s. not (streamUsed s)) from (v .streams))
+unfoldable pub openSlot : Option ℕ → OpenSlot
+openSlot none = OpenSlot.Full
+openSlot (some n) = OpenSlot.At n
 
-unfoldable pub freeOpen : OpenTable → Slot
-freeOpen t = slotOf (firstAfter (λ o. not (openUsed o)) 0 (t .rows))
+unfoldable pub freeFile : Volume → FileSlot
+freeFile v = fileSlot (firstAfter (λ f. not (fileUsed f)) 0 (v .files))
+
+unfoldable pub freeLink : Volume → LinkSlot
+freeLink v = linkSlot (firstAfter (λ l. not (linkUsed l)) 0 (v .links))
+
+unfoldable pub freeStream : Volume → ℕ → StreamSlot
+freeStream v from = streamSlot (firstAfter (λ s. not (streamUsed s)) from (v .streams))
+
+unfoldable pub freeOpen : OpenTable → OpenSlot
+freeOpen t = openSlot (firstAfter (λ o. not (openUsed o)) 0 (t .rows))
 
 -- some open, counted or not, is on the file
 unfoldable pub fileHasOpen : OpenTable → FileNo → Bool

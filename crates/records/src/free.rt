@@ -1,7 +1,13 @@
 // The lowest free slot of each table, and whether a file has an open.
 use crate::FileNo;
+use crate::LinkNo;
 use crate::OpenTable;
+use crate::StreamNo;
 use crate::Volume;
+use crate::sizes::FILE_SLOTS;
+use crate::sizes::LINK_SLOTS;
+use crate::sizes::OPEN_SLOTS;
+use crate::sizes::STREAM_SLOTS;
 use crate::slots::file_used;
 use crate::slots::link_used;
 use crate::slots::open_used;
@@ -10,66 +16,85 @@ ghost use mathlib.Core.Path.{_≡_};
 ghost use Rattle.records.specs.Free.{freeFile, freeLink, freeStream, freeOpen, fileHasOpen};
 
 // What a search for a free slot finds: the lowest one, or that the table is full.
-pub enum Slot {
-    At(u16),
+pub enum FileSlot {
+    At(FileNo),
     Full,
 }
 
-pub fn free_file(v: Volume) -> Slot
+pub enum LinkSlot {
+    At(LinkNo),
+    Full,
+}
+
+pub enum StreamSlot {
+    At(StreamNo),
+    Full,
+}
+
+// A row of the open table has no number of its own kind: handles come from elsewhere.
+pub enum OpenSlot {
+    At(usize),
+    Full,
+}
+
+pub fn free_file(v: Volume) -> FileSlot
     ensures { λ r. ⌜ r ≡ freeFile v ⌝ }
 {
     let mut i: usize = 0;
-    while i < 128 {
+    while i < FILE_SLOTS {
         let f = v.files[i];
         if !file_used(f) {
-            return Slot::At(i as u16);
+            let n = i as u16;
+            return FileSlot::At(FileNo(n));
         }
         i += 1;
     }
-    Slot::Full
+    FileSlot::Full
 }
 
-pub fn free_link(v: Volume) -> Slot
+pub fn free_link(v: Volume) -> LinkSlot
     ensures { λ r. ⌜ r ≡ freeLink v ⌝ }
 {
     let mut i: usize = 0;
-    while i < 192 {
+    while i < LINK_SLOTS {
         let l = v.links[i];
         if !link_used(l) {
-            return Slot::At(i as u16);
+            let n = i as u16;
+            return LinkSlot::At(LinkNo(n));
         }
         i += 1;
     }
-    Slot::Full
+    LinkSlot::Full
 }
 
-// The lowest free slot from a place on: an open may add two streams.
-pub fn free_stream(v: Volume, from: usize) -> Slot
+// The search starts at a place: an open may add two streams.
+pub fn free_stream(v: Volume, from: usize) -> StreamSlot
     ensures { λ r. ⌜ r ≡ freeStream v from ⌝ }
 {
     let mut i = from;
-    while i < 256 {
+    while i < STREAM_SLOTS {
         let s = v.streams[i];
         if !stream_used(s) {
-            return Slot::At(i as u16);
+            let n = i as u16;
+            return StreamSlot::At(StreamNo(n));
         }
         i += 1;
     }
-    Slot::Full
+    StreamSlot::Full
 }
 
-pub fn free_open(t: OpenTable) -> Slot
+pub fn free_open(t: OpenTable) -> OpenSlot
     ensures { λ r. ⌜ r ≡ freeOpen t ⌝ }
 {
     let mut i: usize = 0;
-    while i < 256 {
+    while i < OPEN_SLOTS {
         let o = t.rows[i];
         if !open_used(o) {
-            return Slot::At(i as u16);
+            return OpenSlot::At(i);
         }
         i += 1;
     }
-    Slot::Full
+    OpenSlot::Full
 }
 
 // Some open, counted or not, is on the file.
@@ -77,7 +102,7 @@ pub fn file_has_open(t: OpenTable, f: FileNo) -> bool
     ensures { λ r. ⌜ r ≡ fileHasOpen t f ⌝ }
 {
     let mut i: usize = 0;
-    while i < 256 {
+    while i < OPEN_SLOTS {
         let o = t.rows[i];
         if open_used(o) && o.file.0 == f.0 {
             return true;

@@ -2,6 +2,7 @@
 // File, link and stream numbers and handles are types of their own, so that none can serve as another.
 pub mod constants;
 pub mod free;
+pub mod sizes;
 pub mod slots;
 pub mod tables;
 

@@ -8,6 +8,9 @@ use crate::Open;
 use crate::ShareCounts;
 use crate::Stream;
 use crate::StreamNo;
+use crate::sizes::ACCOUNTS;
+use crate::sizes::FILE_NAME_LIMIT;
+use crate::sizes::STREAM_NAME_LIMIT;
 ghost use mathlib.Core.Path.{_≡_};
 ghost use Rattle.records.specs.Slots.{zeroFile, zeroLink, zeroCounts, zeroStream, zeroOpen};
 ghost use Rattle.records.specs.Slots.{isUsed, isDirectory, isData, fileUsed, linkUsed, streamUsed, openUsed, maskOf};
@@ -18,7 +21,7 @@ pub fn zero_file() -> File
     File {
         file_type: FileType::Unused,
         attributes: 0,
-        masks: [0; 8],
+        masks: [0; ACCOUNTS],
     }
 }
 
@@ -27,7 +30,7 @@ pub fn zero_link() -> Link
 {
     Link {
         parent: FileNo(0),
-        name: [0; 32],
+        name: [0; FILE_NAME_LIMIT],
         file: FileNo(0),
     }
 }
@@ -52,7 +55,7 @@ pub fn zero_stream() -> Stream
     Stream {
         file: FileNo(0),
         stream_type: FileType::Unused,
-        name: [0; 32],
+        name: [0; STREAM_NAME_LIMIT],
         counts: zero_counts(),
     }
 }
@@ -74,8 +77,7 @@ pub fn is_used(t: FileType) -> bool
 {
     match t {
         FileType::Unused => false,
-        FileType::Data => true,
-        FileType::Directory => true,
+        FileType::Data | FileType::Directory => true,
     }
 }
 
@@ -83,9 +85,8 @@ pub fn is_directory(t: FileType) -> bool
     ensures { λ r. ⌜ r ≡ isDirectory t ⌝ }
 {
     match t {
-        FileType::Unused => false,
-        FileType::Data => false,
         FileType::Directory => true,
+        FileType::Unused | FileType::Data => false,
     }
 }
 
@@ -93,17 +94,16 @@ pub fn is_data(t: FileType) -> bool
     ensures { λ r. ⌜ r ≡ isData t ⌝ }
 {
     match t {
-        FileType::Unused => false,
         FileType::Data => true,
-        FileType::Directory => false,
+        FileType::Unused | FileType::Directory => false,
     }
 }
 
 pub fn file_used(f: File) -> bool
     ensures { λ r. ⌜ r ≡ fileUsed f ⌝ }
 {
-    let t = f.file_type;
-    is_used(t)
+    let file_type = f.file_type;
+    is_used(file_type)
 }
 
 pub fn link_used(l: Link) -> bool
@@ -115,8 +115,8 @@ pub fn link_used(l: Link) -> bool
 pub fn stream_used(s: Stream) -> bool
     ensures { λ r. ⌜ r ≡ streamUsed s ⌝ }
 {
-    let t = s.stream_type;
-    is_used(t)
+    let stream_type = s.stream_type;
+    is_used(stream_type)
 }
 
 pub fn open_used(o: Open) -> bool
@@ -129,10 +129,6 @@ pub fn open_used(o: Open) -> bool
 pub fn mask_of(f: File, account: u32) -> u32
     ensures { λ r. ⌜ r ≡ maskOf f account ⌝ }
 {
-    if account < 8 {
-        let i = account as usize;
-        f.masks[i]
-    } else {
-        0
-    }
+    let i = account as usize;
+    if i < ACCOUNTS { f.masks[i] } else { 0 }
 }

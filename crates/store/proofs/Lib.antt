@@ -1,3 +1,4 @@
--- The worked cases, and demand 3: the theorem about every sequence of calls.
+-- The worked cases, demand 3 (the theorem about every sequence of calls), and laws of single calls.
 pub mod Cases
 pub mod Sequences
+pub mod Laws

@@ -10,7 +10,7 @@ use Rattle.records.specs.Namespace.{bareUsed, bareAt, bare, withCounts, namespa
 use Rattle.records.specs.Checked.{_>>=_, _>>_, refuseIf}
 use Rattle.names.specs.Units.{upper, folded, equalUnits}
 use Rattle.names.specs.Names.{validUnit, validFileName, validStreamName, units, wellStored}
-use Rattle.names.specs.Paths.{startPart, split, components, endsIn, leafOf, validLeaf, checkedLeaf, parseComponents, parsePath}
+use Rattle.paths.specs.Paths.{startPart, split, components, endsIn, leafOf, validLeaf, checkedLeaf, parseComponents, parsePath}
 use Rattle.lookup.specs.Lookup.{linkMatches, linkNumber, findLink, streamMatches, streamNumber, findStream, stepInto, descend, placeOf, locateLeaf, locate}
 use Rattle.access.specs.Access.{effective, need, accessFrom, accessRule, checkedAccess}
 use Rattle.sharing.specs.Sharing.{accessBits, shareBit, anyKind, holds, shares, counted, conflict, conflicting, onStream, anyConflict, isHolder, isSharer, countsOfAll, countsOf, holders, sharers, shareCheck, changedBy, withOpen, withoutOpen}

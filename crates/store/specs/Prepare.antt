@@ -21,7 +21,7 @@ use Rattle.records.specs.declared.FileNo.{FileNo}
 use Rattle.records.specs.declared.StreamNo.{StreamNo}
 use Rattle.records.specs.declared.File.{File}
 use Rattle.records.specs.declared.Request.{Request}
-use Rattle.names.specs.Paths.{Path, Leaf, parsePath}
+use Rattle.paths.specs.Paths.{Path, Leaf, parsePath}
 use Rattle.lookup.specs.Lookup.{Place, found, missing, locate, findStream}
 use Rattle.access.specs.Access.{accessRule, checkedAccess}
 use Rattle.store.specs.Request.{wantsDirectory, wantsFile, badParameters, badAccess, wantsBoth, writesVolume}

@@ -1,7 +1,6 @@
 -- `access::access_rule` meets its contract: the code is the definition.
-use mathlib.Core.Path.{_∙_, ap}
 use borrow.Author.Needs.{needs}
-use Rattle.access.specs.Access.{accessFrom, accessRule}
+use Rattle.access.specs.Access.{accessRule}
 use Rattle.access.proofs.access_rule.Statement.{statement}
 use Rattle.access.proofs.access_rule.Tie as tie
 

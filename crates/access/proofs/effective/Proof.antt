@@ -1,9 +1,6 @@
 -- `access::effective` meets its contract: each way through the two tests is one case of the definition.
-use mathlib.Core.Path.{_≡_, refl, sym, _∙_, ap}
-use mathlib.Core.Bool.{true, false}
 use mathlib.Core.Logic.{⊎-elim}
 use borrow.Author.Needs.{needs}
-use Rattle.bits.specs.Bits.{without}
 use Rattle.access.specs.Access.{effective}
 use Rattle.access.proofs.effective.Statement.{statement}
 use Rattle.access.proofs.effective.Tie as tie
@@ -25,7 +22,13 @@ unfolding effective
 returns c =
     let h = c .before .before in
     let d = h .before .before in
-    rw (← d .is-data .ensures, h .before .if1 .taken, ← h .has .ensures, c .before .if2 .taken, ← d .before .mask-of .ensures) (c .without .ensures)
+    rw (
+      ← d .is-data .ensures,
+      h .before .if1 .taken,
+      ← h .has .ensures,
+      c .before .if2 .taken,
+      ← d .before .mask-of .ensures,
+    ) (c .without .ensures)
 
 returns-2 : tie.Need-returns-2
 unfolding effective

@@ -10,20 +10,19 @@ use Rattle.lists.specs.Lists.{any, first, isEmpty, same}
 use Rattle.lists.proofs.Tests.{and-left, and-right}
 use Rattle.lists.proofs.Find.{Found, first-found, first-none}
 use Rattle.records.specs.Sizes.{fileNameLimit}
-use Rattle.records.specs.Slots.{root, isUsed, isDirectory, zeroLink, fileUsed, linkUsed, fileAt, linkAt}
+use Rattle.records.specs.Slots.{root, isDirectory, zeroLink, fileUsed, linkUsed, fileAt, linkAt}
 use Rattle.records.specs.Namespace.{Namespace}
 use Rattle.records.specs.Checked.{Checked, refused, passed, _>>=_}
 use Rattle.records.specs.declared.Status.the-variants.{ObjectPathNotFound}
-use Rattle.records.specs.declared.FileType.{FileType}
-use Rattle.records.specs.declared.FileType.the-variants.{Unused, Data, Directory}
 use Rattle.records.specs.declared.FileNo.{FileNo}
 use Rattle.records.specs.declared.LinkNo.{LinkNo}
 use Rattle.records.specs.declared.Link.{Link}
 use Rattle.records.proofs.Checked.{refused≢passed, passed-same, bind-passed}
 use Rattle.names.specs.Units.{folded, equalUnits}
 use Rattle.names.specs.Names.{units, validFileName}
-use Rattle.names.specs.Paths.{Leaf, Path}
-use Rattle.names.proofs.Parsed.{LeafFits}
+use Rattle.paths.specs.Paths.{Leaf, Path}
+use Rattle.paths.proofs.Parsed.{LeafFits}
+use Rattle.consistency.proofs.Slots.{directory-used}
 use Rattle.lookup.specs.Lookup.{linkMatches, linkNumber, findLink, stepInto, descend, Place, found, missing, placeOf, locateLeaf, locate}
 use Rattle.store.proofs.Sequences.Facts.{NamesConsistent}
 
@@ -33,12 +32,6 @@ PlaceFits ns fold leaf (missing dir name stream) =
     (isDirectory (fileAt (ns .files) dir .«file_type») ≡ true)
     × ((l : Leaf) × (leaf ≡ some l) × (name ≡ l .file) × (stream ≡ l .stream))
     × (any (linkMatches fold dir name) (ns .links) ≡ false)
-
-pub directory-used : (t : FileType) → isDirectory t ≡ true → isUsed t ≡ true
-unfolding isDirectory isUsed
-directory-used Unused h = h
-directory-used Data h = absurd (false≢true h)
-directory-used Directory h = refl
 
 -- the components before the last lead from a directory to a directory
 stepped : (ns : Namespace) (o : Option LinkNo) (f : FileNo) → stepInto ns o ≡ passed f

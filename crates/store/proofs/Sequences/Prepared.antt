@@ -32,14 +32,15 @@ use Rattle.records.specs.declared.Request.{Request}
 use Rattle.records.proofs.Checked.{refused≢passed, passed-same, bind-passed, then-passed, test-passed}
 use Rattle.names.specs.Units.{equalUnits}
 use Rattle.names.specs.Names.{units, validStreamName}
-use Rattle.names.specs.Paths.{Leaf, Path, parsePath}
-use Rattle.names.proofs.Parsed.{LeafFits, parsed-leaf}
+use Rattle.paths.specs.Paths.{Leaf, Path, parsePath}
+use Rattle.paths.proofs.Parsed.{LeafFits, parsed-leaf}
 use Rattle.lookup.specs.Lookup.{linkMatches, streamMatches, streamNumber, findStream, Place, found, missing, locate}
 use Rattle.store.specs.Request.{wantsDirectory, wantsFile, badParameters, badAccess, wantsBoth, writesVolume}
 use Rattle.store.specs.Prepare
 use Rattle.store.specs.Prepare.{Existing, newStream, newFile, Pending, existing, creating, opening, grant, grantedNew, newType, attributesNew, fileNew, prepareNew, wrongType, streamOr, prepareDirectory, prepareOpen, gained, replacement, prepareReplace, prepareStream, prepareData, prepareFound, prepareAt, streamName, hasColon, readSharingOf, prepare}
 use Rattle.store.proofs.Sequences.Facts.{NamesConsistent, AttributesFit, StreamFits, FileFits, Grantable, ExistingFits, PendingFits}
-use Rattle.store.proofs.Sequences.Located.{PlaceFits, located, directory-used}
+use Rattle.consistency.proofs.Slots.{directory-used}
+use Rattle.store.proofs.Sequences.Located.{PlaceFits, located}
 use Rattle.store.proofs.Sequences.Granted.{granted-fits}
 use Rattle.store.proofs.Sequences.Requested.{RequestFits, requested, granted-new, Attributes, replaced, archived, attributes-new}
 

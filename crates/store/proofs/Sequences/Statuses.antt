@@ -26,8 +26,8 @@ use Rattle.records.specs.declared.Link.{Link}
 use Rattle.records.specs.declared.Request.{Request}
 use Rattle.names.specs.Units.{colon, folded, equalUnits}
 use Rattle.names.specs.Names.{units}
-use Rattle.names.specs.Paths.{Leaf, Path, split, components, leafOf, validLeaf, checkedLeaf, parseComponents, parsePath}
-use Rattle.names.proofs.Parsed.{parsed-leaf}
+use Rattle.paths.specs.Paths.{Leaf, Path, split, components, leafOf, validLeaf, checkedLeaf, parseComponents, parsePath}
+use Rattle.paths.proofs.Parsed.{parsed-leaf}
 use Rattle.lookup.specs.Lookup.{findLink, streamMatches, streamNumber, findStream, stepInto, descend, Place, found, missing, locate}
 use Rattle.access.specs.Access.{accessRule, checkedAccess}
 use Rattle.access.specs.declared.Access.{Access}

@@ -1,7 +1,7 @@
 -- `lookup::walk::locate` meets its contract.
 use borrow.Author.Needs.{needs}
 use Rattle.records.specs.Checked.{_>>=_}
-use Rattle.names.specs.Positions.{asPath}
+use Rattle.paths.specs.Positions.{asPath}
 use Rattle.lookup.specs.Lookup.{descend, locateLeaf, locate}
 use Rattle.lookup.specs.Answers.{leafNames, asPlace, locateParsed}
 use Rattle.lookup.proofs.walk.locate.Statement.{statement}

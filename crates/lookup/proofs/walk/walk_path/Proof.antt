@@ -16,10 +16,10 @@ use Rattle.records.specs.declared.FileNo.{FileNo}
 use Rattle.records.specs.declared.File.{File}
 use Rattle.records.specs.declared.Link.{Link}
 use Rattle.records.proofs.Lengths.{links-length}
-use Rattle.names.specs.Paths.{components}
-use Rattle.names.specs.Positions.{partOf, parentsOf, nextComponent}
-use Rattle.names.specs.declared.Part.{Part}
-use Rattle.names.proofs.Places.{next-order, next-within}
+use Rattle.paths.specs.Paths.{components}
+use Rattle.paths.specs.Positions.{partOf, parentsOf, nextComponent}
+use Rattle.paths.specs.declared.Part.{Part}
+use Rattle.paths.proofs.Places.{next-order, next-within}
 use Rattle.lookup.specs.Lookup.{linkMatches, linkNumber, findLink}
 use Rattle.lookup.specs.Answers.{foundLink, lastStep, walkedFrom}
 use Rattle.lookup.specs.declared.Walked.{Walked}

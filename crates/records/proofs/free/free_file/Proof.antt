@@ -5,14 +5,14 @@ use native.Mathlib.Omega.{arith}
 use borrow.Author.Needs.{needs}
 use Rattle.lists.specs.Lists.{firstAfter}
 use Rattle.records.specs.Slots.{fileUsed}
-use Rattle.records.specs.Free.{freeFile}
+use Rattle.records.specs.Free.{fileSlot, freeFile}
 use Rattle.records.proofs.Lengths.{files-length}
 use Rattle.records.proofs.Searches.{freeFrom, free-here, free-next, free-none}
 use Rattle.records.proofs.free.free_file.Statement.{statement}
 use Rattle.records.proofs.free.free_file.Tie as tie
 
 abbrev Inv-loop : tie.InvT-loop
-Inv-loop v i₀ i = freeFile v ≡ freeFrom fileUsed (v .files) i
+Inv-loop v i₀ i = freeFile v ≡ freeFrom fileSlot fileUsed (v .files) i
 
 abbrev μ-loop : tie.MeasureT-loop
 μ-loop v i₀ i = 128 - i
@@ -30,17 +30,18 @@ element-copy-out-f c = search needs
 file-used-requires : tie.Need-file-used-requires Inv-loop μ-loop
 file-used-requires c κs = search needs
 
-cast-t11 : tie.Need-cast-t11 Inv-loop μ-loop
-cast-t11 c = search needs
+cast-n : tie.Need-cast-n Inv-loop μ-loop
+cast-n c = search needs
 
 returns : tie.Need-returns Inv-loop μ-loop
+unfolding fileSlot
 returns c =
     let u = c .before in
     let l = u .before .before .before in
     let h = files-length (l .before .args .t1) _ (l .before .good .0) in
     sym
     (l .loop .inv
-    ∙ free-here fileUsed (l .before .args .t1 .files) (l .loop .i) _ (omega arith) (u .file-used .ensures) (c .if1 .taken))
+    ∙ free-here fileSlot fileUsed (l .before .args .t1 .files) (l .loop .i) _ (omega arith) (u .file-used .ensures) (c .if1 .taken))
 
 add-i : tie.Need-add-i Inv-loop μ-loop
 add-i c = search needs
@@ -54,13 +55,14 @@ loop-again c =
     let l = u .before .before .before in
     let h = files-length (l .before .args .t1) _ (l .before .good .0) in
     l .loop .inv
-    ∙ free-next fileUsed (l .before .args .t1 .files) (l .loop .i) _ (omega arith) (u .file-used .ensures) (c .if1 .left)
+    ∙ free-next fileSlot fileUsed (l .before .args .t1 .files) (l .loop .i) _ (omega arith) (u .file-used .ensures) (c .if1 .left)
 
 returns-2 : tie.Need-returns-2 Inv-loop μ-loop
+unfolding fileSlot
 returns-2 c =
     let l = c .before in
     let h = files-length (l .before .args .t1) _ (l .before .good .0) in
-    sym (l .loop .inv ∙ free-none fileUsed (l .before .args .t1 .files) (l .loop .i) (omega arith))
+    sym (l .loop .inv ∙ free-none fileSlot fileUsed (l .before .args .t1 .files) (l .loop .i) (omega arith))
 
 pub free-file-spec : {M : Type 1} → statement M
 free-file-spec =
@@ -72,7 +74,7 @@ free-file-spec =
     mul-f
     element-copy-out-f
     file-used-requires
-    cast-t11
+    cast-n
     returns
     add-i
     loop-less

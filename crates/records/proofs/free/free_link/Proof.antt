@@ -5,14 +5,14 @@ use native.Mathlib.Omega.{arith}
 use borrow.Author.Needs.{needs}
 use Rattle.lists.specs.Lists.{firstAfter}
 use Rattle.records.specs.Slots.{linkUsed}
-use Rattle.records.specs.Free.{freeLink}
+use Rattle.records.specs.Free.{linkSlot, freeLink}
 use Rattle.records.proofs.Lengths.{links-length}
 use Rattle.records.proofs.Searches.{freeFrom, free-here, free-next, free-none}
 use Rattle.records.proofs.free.free_link.Statement.{statement}
 use Rattle.records.proofs.free.free_link.Tie as tie
 
 abbrev Inv-loop : tie.InvT-loop
-Inv-loop v i₀ i = freeLink v ≡ freeFrom linkUsed (v .links) i
+Inv-loop v i₀ i = freeLink v ≡ freeFrom linkSlot linkUsed (v .links) i
 
 abbrev μ-loop : tie.MeasureT-loop
 μ-loop v i₀ i = 192 - i
@@ -30,17 +30,18 @@ element-copy-out-l c = search needs
 link-used-requires : tie.Need-link-used-requires Inv-loop μ-loop
 link-used-requires c κs = search needs
 
-cast-t11 : tie.Need-cast-t11 Inv-loop μ-loop
-cast-t11 c = search needs
+cast-n : tie.Need-cast-n Inv-loop μ-loop
+cast-n c = search needs
 
 returns : tie.Need-returns Inv-loop μ-loop
+unfolding linkSlot
 returns c =
     let u = c .before in
     let l = u .before .before .before in
     let h = links-length (l .before .args .t1) _ (l .before .good .0) in
     sym
     (l .loop .inv
-    ∙ free-here linkUsed (l .before .args .t1 .links) (l .loop .i) _ (omega arith) (u .link-used .ensures) (c .if1 .taken))
+    ∙ free-here linkSlot linkUsed (l .before .args .t1 .links) (l .loop .i) _ (omega arith) (u .link-used .ensures) (c .if1 .taken))
 
 add-i : tie.Need-add-i Inv-loop μ-loop
 add-i c = search needs
@@ -54,13 +55,14 @@ loop-again c =
     let l = u .before .before .before in
     let h = links-length (l .before .args .t1) _ (l .before .good .0) in
     l .loop .inv
-    ∙ free-next linkUsed (l .before .args .t1 .links) (l .loop .i) _ (omega arith) (u .link-used .ensures) (c .if1 .left)
+    ∙ free-next linkSlot linkUsed (l .before .args .t1 .links) (l .loop .i) _ (omega arith) (u .link-used .ensures) (c .if1 .left)
 
 returns-2 : tie.Need-returns-2 Inv-loop μ-loop
+unfolding linkSlot
 returns-2 c =
     let l = c .before in
     let h = links-length (l .before .args .t1) _ (l .before .good .0) in
-    sym (l .loop .inv ∙ free-none linkUsed (l .before .args .t1 .links) (l .loop .i) (omega arith))
+    sym (l .loop .inv ∙ free-none linkSlot linkUsed (l .before .args .t1 .links) (l .loop .i) (omega arith))
 
 pub free-link-spec : {M : Type 1} → statement M
 free-link-spec =
@@ -72,7 +74,7 @@ free-link-spec =
     mul-l
     element-copy-out-l
     link-used-requires
-    cast-t11
+    cast-n
     returns
     add-i
     loop-less

@@ -5,14 +5,14 @@ use native.Mathlib.Omega.{arith}
 use borrow.Author.Needs.{needs}
 use Rattle.lists.specs.Lists.{firstAfter}
 use Rattle.records.specs.Slots.{openUsed}
-use Rattle.records.specs.Free.{freeOpen}
+use Rattle.records.specs.Free.{openSlot, freeOpen}
 use Rattle.records.proofs.Lengths.{rows-length}
 use Rattle.records.proofs.Searches.{freeFrom, free-here, free-next, free-none}
 use Rattle.records.proofs.free.free_open.Statement.{statement}
 use Rattle.records.proofs.free.free_open.Tie as tie
 
 abbrev Inv-loop : tie.InvT-loop
-Inv-loop t i₀ i = freeOpen t ≡ freeFrom openUsed (t .rows) i
+Inv-loop t i₀ i = freeOpen t ≡ freeFrom openSlot openUsed (t .rows) i
 
 abbrev μ-loop : tie.MeasureT-loop
 μ-loop t i₀ i = 256 - i
@@ -30,17 +30,15 @@ element-copy-out-o c = search needs
 open-used-requires : tie.Need-open-used-requires Inv-loop μ-loop
 open-used-requires c κs = search needs
 
-cast-t11 : tie.Need-cast-t11 Inv-loop μ-loop
-cast-t11 c = search needs
-
 returns : tie.Need-returns Inv-loop μ-loop
+unfolding openSlot
 returns c =
     let u = c .before in
     let l = u .before .before .before in
     let h = rows-length (l .before .args .t1) _ (l .before .good .0) in
     sym
     (l .loop .inv
-    ∙ free-here openUsed (l .before .args .t1 .rows) (l .loop .i) _ (omega arith) (u .open-used .ensures) (c .if1 .taken))
+    ∙ free-here openSlot openUsed (l .before .args .t1 .rows) (l .loop .i) _ (omega arith) (u .open-used .ensures) (c .if1 .taken))
 
 add-i : tie.Need-add-i Inv-loop μ-loop
 add-i c = search needs
@@ -54,13 +52,14 @@ loop-again c =
     let l = u .before .before .before in
     let h = rows-length (l .before .args .t1) _ (l .before .good .0) in
     l .loop .inv
-    ∙ free-next openUsed (l .before .args .t1 .rows) (l .loop .i) _ (omega arith) (u .open-used .ensures) (c .if1 .left)
+    ∙ free-next openSlot openUsed (l .before .args .t1 .rows) (l .loop .i) _ (omega arith) (u .open-used .ensures) (c .if1 .left)
 
 returns-2 : tie.Need-returns-2 Inv-loop μ-loop
+unfolding openSlot
 returns-2 c =
     let l = c .before in
     let h = rows-length (l .before .args .t1) _ (l .before .good .0) in
-    sym (l .loop .inv ∙ free-none openUsed (l .before .args .t1 .rows) (l .loop .i) (omega arith))
+    sym (l .loop .inv ∙ free-none openSlot openUsed (l .before .args .t1 .rows) (l .loop .i) (omega arith))
 
 pub free-open-spec : {M : Type 1} → statement M
 free-open-spec =
@@ -72,7 +71,6 @@ free-open-spec =
     mul-o
     element-copy-out-o
     open-used-requires
-    cast-t11
     returns
     add-i
     loop-less

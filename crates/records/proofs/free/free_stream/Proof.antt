@@ -5,14 +5,14 @@ use native.Mathlib.Omega.{arith}
 use borrow.Author.Needs.{needs}
 use Rattle.lists.specs.Lists.{firstAfter}
 use Rattle.records.specs.Slots.{streamUsed}
-use Rattle.records.specs.Free.{freeStream}
+use Rattle.records.specs.Free.{streamSlot, freeStream}
 use Rattle.records.proofs.Lengths.{streams-length}
 use Rattle.records.proofs.Searches.{freeFrom, free-here, free-next, free-none}
 use Rattle.records.proofs.free.free_stream.Statement.{statement}
 use Rattle.records.proofs.free.free_stream.Tie as tie
 
 abbrev Inv-loop : tie.InvT-loop
-Inv-loop from v i₀ i = freeStream v from ≡ freeFrom streamUsed (v .streams) i
+Inv-loop from v i₀ i = freeStream v from ≡ freeFrom streamSlot streamUsed (v .streams) i
 
 abbrev μ-loop : tie.MeasureT-loop
 μ-loop from v i₀ i = 256 - i
@@ -30,17 +30,18 @@ element-copy-out-s c = search needs
 stream-used-requires : tie.Need-stream-used-requires Inv-loop μ-loop
 stream-used-requires c κs = search needs
 
-cast-t12 : tie.Need-cast-t12 Inv-loop μ-loop
-cast-t12 c = search needs
+cast-n : tie.Need-cast-n Inv-loop μ-loop
+cast-n c = search needs
 
 returns : tie.Need-returns Inv-loop μ-loop
+unfolding streamSlot
 returns c =
     let u = c .before in
     let l = u .before .before .before in
     let h = streams-length (l .before .args .t1) _ (l .before .good .0) in
     sym
     (l .loop .inv
-    ∙ free-here streamUsed (l .before .args .t1 .streams) (l .loop .i) _ (omega arith) (u .stream-used .ensures) (c .if1 .taken))
+    ∙ free-here streamSlot streamUsed (l .before .args .t1 .streams) (l .loop .i) _ (omega arith) (u .stream-used .ensures) (c .if1 .taken))
 
 add-i : tie.Need-add-i Inv-loop μ-loop
 add-i c = search needs
@@ -54,13 +55,14 @@ loop-again c =
     let l = u .before .before .before in
     let h = streams-length (l .before .args .t1) _ (l .before .good .0) in
     l .loop .inv
-    ∙ free-next streamUsed (l .before .args .t1 .streams) (l .loop .i) _ (omega arith) (u .stream-used .ensures) (c .if1 .left)
+    ∙ free-next streamSlot streamUsed (l .before .args .t1 .streams) (l .loop .i) _ (omega arith) (u .stream-used .ensures) (c .if1 .left)
 
 returns-2 : tie.Need-returns-2 Inv-loop μ-loop
+unfolding streamSlot
 returns-2 c =
     let l = c .before in
     let h = streams-length (l .before .args .t1) _ (l .before .good .0) in
-    sym (l .loop .inv ∙ free-none streamUsed (l .before .args .t1 .streams) (l .loop .i) (omega arith))
+    sym (l .loop .inv ∙ free-none streamSlot streamUsed (l .before .args .t1 .streams) (l .loop .i) (omega arith))
 
 pub free-stream-spec : {M : Type 1} → statement M
 free-stream-spec =
@@ -72,7 +74,7 @@ free-stream-spec =
     mul-s
     element-copy-out-s
     stream-used-requires
-    cast-t12
+    cast-n
     returns
     add-i
     loop-less

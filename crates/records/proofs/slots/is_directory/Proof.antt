@@ -1,29 +1,35 @@
 -- `records::slots::is_directory` meets its contract, by the three cases.
+use mathlib.Core.Path.{_≡_, refl}
+use mathlib.Core.Bool.{false}
+use mathlib.Core.List.{[], _∷_}
+use mathlib.Core.Logic.{⊎-elim}
+use native.Mathlib.Omega.{arith}
+use types.Run.{OneOf}
+use denote.Enum.Declared.{tagOf}
 use borrow.Author.Needs.{needs}
 use Rattle.records.specs.Slots.{isDirectory}
+use Rattle.records.specs.declared.FileType.{FileType}
+use Rattle.records.specs.declared.FileType.the-variants.{Unused, Data, Directory}
+use Rattle.records.proofs.FileType as FileTypeT
 use Rattle.records.proofs.slots.is_directory.Statement.{statement}
 use Rattle.records.proofs.slots.is_directory.Tie as tie
 
+-- the arm of two types
+rest : (t : FileType) → OneOf (0 ∷ 1 ∷ []) (tagOf FileTypeT.the-type t) → false ≡ isDirectory t
+unfolding isDirectory
+rest Unused k = refl
+rest Data k = refl
+rest Directory k = absurd (⊎-elim (λ e. omega arith) (λ e. omega arith) k)
+
 enum-told : tie.Need-enum-told
 enum-told c = search needs
-
-enum-told-2 : tie.Need-enum-told-2
-enum-told-2 c = search needs
-
-enum-told-3 : tie.Need-enum-told-3
-enum-told-3 c = search needs
 
 returns : tie.Need-returns
 unfolding isDirectory
 returns c = rw (c .enum-told .given .1)
 
 returns-2 : tie.Need-returns-2
-unfolding isDirectory
-returns-2 c = rw (c .enum-told2 .given .1)
-
-returns-3 : tie.Need-returns-3
-unfolding isDirectory
-returns-3 c = rw (c .enum-told3 .given .1)
+returns-2 c = rest (c .before .args .t) (c .match .keys2)
 
 pub is-directory-spec : {M : Type 1} → statement M
-is-directory-spec = tie.close (tie.spec enum-told enum-told-2 enum-told-3 returns returns-2 returns-3)
+is-directory-spec = tie.close (tie.spec enum-told returns returns-2)

@@ -45,11 +45,11 @@ same-streams v e =
 
 pub with-open-names : (o : Open) (v : Volume) → namespace (volumeWithOpen o v) ≡ namespace v
 unfolding namespace volumeWithOpen
-with-open-names o v = same-streams v (recount-bare (withOpen o) (o .stream) (v .streams))
+with-open-names o v = same-streams v (recount-bare _ (o .stream) (v .streams))
 
 pub without-open-names : (o : Open) (v : Volume) → namespace (volumeWithoutOpen o v) ≡ namespace v
 unfolding namespace volumeWithoutOpen
-without-open-names o v = same-streams v (recount-bare (withoutOpen o) (o .stream) (v .streams))
+without-open-names o v = same-streams v (recount-bare _ (o .stream) (v .streams))
 
 -- the streams that a change writes, without their counts
 pub fresh-bare : (ws : List (StreamNo × BareStream)) (ss : List Stream)

@@ -1,0 +1,120 @@
+// The audit of the links of each file: how many there are, and that the parents lead to the root. The links are passed
+// once for the counts and once for the parents, from the last to the first, as the definitions go through them.
+use records::Volume;
+use records::slots::file_used;
+use records::slots::link_used;
+ghost use Prim.Native.Nat.{ℕ, _<_};
+ghost use mathlib.Core.Path.{_≡_};
+ghost use mathlib.Core.Bool.{cond, true};
+ghost use mathlib.Core.List.{List};
+ghost use lib.Dec.{eqb};
+ghost use lib.ListN.{getD};
+ghost use Rattle.lists.specs.Lists.{all, allFrom, count, keep};
+ghost use Rattle.records.specs.Slots.{linkUsed};
+ghost use Rattle.records.specs.declared.FileNo.{FileNo};
+ghost use Rattle.records.specs.declared.Link.{Link};
+ghost use Rattle.consistency.specs.Relations.{linkTo, parentOf, reaches};
+ghost use Rattle.consistency.specs.Test.{freeLink, usedLink, linksOfFile};
+
+// How many used links name each file.
+fn link_counts(v: Volume) -> [u16; 128]
+    ensures { λ r. ⌜ ((f : FileNo) → f .0 < 128 → getD r (f .0) 0 ≡ count (linkTo f) (v .links)) ⌝ }
+{
+    let mut counts = [0u16; 128];
+    let mut i: usize = 192;
+    while 0 < i {
+        i -= 1;
+        let l = v.links[i];
+        let f = l.file.0 as usize;
+        if f < 128 && link_used(l) {
+            let c = counts[f];
+            counts[f] = c + 1;
+        }
+    }
+    counts
+}
+
+// Each file its own parent.
+fn own_numbers() -> [u16; 128]
+    ensures { λ r. ⌜ ((n : ℕ) → n < 128 → getD r n 0 ≡ n) ⌝ }
+{
+    let mut numbers = [0u16; 128];
+    let mut i: usize = 0;
+    while i < 128 {
+        numbers[i] = i as u16;
+        i += 1;
+    }
+    numbers
+}
+
+// The parent of each file: that of its lowest link, which is written last.
+fn parents(v: Volume) -> [u16; 128]
+    ensures { λ r. ⌜ ((f : FileNo) → f .0 < 128 → getD r (f .0) 0 ≡ parentOf (v .links) f .0) ⌝ }
+{
+    let mut up = own_numbers();
+    let mut i: usize = 192;
+    while 0 < i {
+        i -= 1;
+        let l = v.links[i];
+        let f = l.file.0 as usize;
+        if f < 128 && link_used(l) {
+            up[f] = l.parent.0;
+        }
+    }
+    up
+}
+
+// Whether the root is at most 128 steps up, by a table of parents, each of which is in the table.
+fn leads_to_root(up: [u16; 128], from: usize) -> bool
+    ensures { λ r.
+        ⌜ ((ls : List Link)
+        → ((f : FileNo) → f .0 < 128 → (getD up (f .0) 0 ≡ parentOf ls f .0) × (parentOf ls f .0 < 128))
+        → from < 128
+        → r ≡ reaches ls 128 (record { 0 = from })) ⌝ }
+{
+    let mut at = from;
+    let mut left: usize = 128;
+    while 0 < left {
+        if at == 0 {
+            return true;
+        }
+        if at >= 128 {
+            return false;
+        }
+        at = up[at] as usize;
+        left -= 1;
+    }
+    at == 0
+}
+
+// How many links a file should have: the root none, every other one.
+fn links_wanted(n: usize) -> u16
+    ensures { λ r. ⌜ r ≡ cond (eqb n 0) 0 1 ⌝ }
+{
+    if n == 0 { 0 } else { 1 }
+}
+
+// Each used file but the root has one link, the root none, and the parents lead to the root. Each link was found to be
+// consistent by itself, so that no parent is past the table's end.
+pub fn files_linked(v: Volume) -> bool
+    ensures { λ r.
+        ⌜ (all (λ l. cond (linkUsed l) (usedLink (v .files) l) (freeLink l)) (v .links) ≡ true
+        → r ≡ allFrom (linksOfFile (keep linkUsed (v .links))) 0 (v .files)) ⌝ }
+{
+    let counts = link_counts(v);
+    let up = parents(v);
+    let mut i: usize = 0;
+    while i < 128 {
+        let f = v.files[i];
+        if file_used(f) {
+            if counts[i] != links_wanted(i) {
+                return false;
+            }
+            if !leads_to_root(up, i) {
+                return false;
+            }
+        }
+        i += 1;
+    }
+    true
+}

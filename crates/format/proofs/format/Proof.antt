@@ -1,0 +1,53 @@
+-- `format::format` meets its contract: the lengths are right, so the masks decide.
+use borrow.Author.Needs.{needs}
+use borrow.Author.Tests.{not-true, not-false}
+use Rattle.records.specs.Checked.{refuseIf, _>>_}
+use Rattle.records.specs.declared.Outcome.the-variants.{Done}
+use Rattle.format.specs.Format.{format, formatAnswer, checkedMasks}
+use Rattle.format.proofs.RightLengths.{right-lengths}
+use Rattle.format.proofs.format.Statement.{statement}
+use Rattle.format.proofs.format.Tie as tie
+
+valid-masks-requires : tie.Need-valid-masks-requires
+valid-masks-requires c κs = search needs
+
+returns : tie.Need-returns
+unfolding format formatAnswer checkedMasks refuseIf _>>_
+returns c =
+    let m = c .before in
+    let a = m .before in
+    rw (
+      right-lengths (a .args .v) _ (a .good .0) (a .args .t) _ (a .good .1 .0),
+      ← m .valid-masks .ensures,
+      not-true (m .valid-masks .result) (c .if1 .taken),
+    )
+
+fresh-volume-requires : tie.Need-fresh-volume-requires
+fresh-volume-requires c κs = search needs
+
+fresh-opens-requires : tie.Need-fresh-opens-requires
+fresh-opens-requires c κs = search needs
+
+returns-2 : tie.Need-returns-2
+unfolding format formatAnswer checkedMasks refuseIf _>>_
+returns-2 c =
+    let v = c .before in
+    let m = v .before .before in
+    let a = m .before in
+    rw (
+      right-lengths (a .args .v) _ (a .good .0) (a .args .t) _ (a .good .1 .0),
+      ← m .valid-masks .ensures,
+      not-false (m .valid-masks .result) (v .before .if1 .left),
+    )
+    (λ i.
+    record {
+      outcome = Done;
+      granted = 0;
+      volume = v .fresh-volume .ensures i;
+      opens = c .fresh-opens .ensures i;
+    })
+
+pub format-spec : {M : Type 1} → statement M
+format-spec =
+    tie.close
+    (tie.spec valid-masks-requires returns fresh-volume-requires fresh-opens-requires returns-2)

@@ -1,0 +1,119 @@
+-- Laws of step 4 on the values found: the last component judged, the components in order, the path whole.
+use Prim.Native.Nat.{ℕ, _≤_, _<_}
+use mathlib.Core.Path.{_≡_, refl, ap}
+use mathlib.Core.Bool.{Bool, true, false, not, cond, _&&_}
+use mathlib.Core.List.{List, [], _∷_, _++_, append-nil, append-assoc}
+use mathlib.Core.Option.{Option, none, some}
+use lib.ListN.{length}
+use borrow.Author.Tests.{le-leb, lt-leb}
+use Rattle.records.specs.Sizes.{fileNameLimit, streamNameLimit, pathLimit}
+use Rattle.records.specs.Checked.{Checked, refused, passed, _>>=_, _>>_, refuseIf}
+use Rattle.records.specs.declared.Status.the-variants.{ObjectNameInvalid}
+use Rattle.names.specs.Units.{backslash, colon}
+use Rattle.names.specs.Names.{validFileName, validStreamName}
+use Rattle.paths.specs.Paths.{Leaf, Path, split, leafOf, components, endsIn, validLeaf, checkedLeaf, parseComponents, parsePath}
+use Rattle.paths.specs.Positions.{named, checked}
+
+-- the last component
+
+module _ (wantsDirectory : Bool) (l : Leaf) where
+  pub leaf-file-bad : validFileName fileNameLimit (l .file) ≡ false → validLeaf wantsDirectory l ≡ false
+  unfolding validLeaf
+  leaf-file-bad e = rw e
+
+  pub leaf-stream-bad : validStreamName streamNameLimit (l .stream) ≡ false → validLeaf wantsDirectory l ≡ false
+  unfolding validLeaf
+  leaf-stream-bad e = rw e (go (validFileName fileNameLimit (l .file)))
+    where
+      go : (b : Bool) → (b && false && not (wantsDirectory && l .colon)) ≡ false
+      go true = refl
+      go false = refl
+
+  pub leaf-of-directory : validFileName fileNameLimit (l .file) ≡ true → validStreamName streamNameLimit (l .stream) ≡ true → wantsDirectory ≡ true → not (l .colon) ≡ validLeaf wantsDirectory l
+  unfolding validLeaf
+  leaf-of-directory f s w = rw (f, s, w)
+
+  pub leaf-of-any : validFileName fileNameLimit (l .file) ≡ true → validStreamName streamNameLimit (l .stream) ≡ true → wantsDirectory ≡ false → true ≡ validLeaf wantsDirectory l
+  unfolding validLeaf
+  leaf-of-any f s w = rw (f, s, w)
+
+abbrev leafIn : Checked Path → Option Leaf
+leafIn (refused s) = none
+leafIn (passed p) = p .leaf
+
+abbrev parentsIn : Checked Path → List (List ℕ)
+parentsIn (refused s) = []
+parentsIn (passed p) = p .parents
+
+-- a last component that was refused by its colons, and one that was not
+
+pub checked-none : (wantsDirectory : Bool) (parents : List (List ℕ)) (x : Option Leaf) → refused ObjectNameInvalid ≡ named parents x → refused ObjectNameInvalid ≡ checked wantsDirectory parents x
+unfolding named checked checkedLeaf _>>=_
+checked-none wantsDirectory parents none e = refl
+checked-none wantsDirectory parents (some l) e = cc
+
+pub never-root : (wantsDirectory : Bool) (parents : List (List ℕ)) (x : Option Leaf) → passed (record { parents = []; leaf = none }) ≡ named parents x → refused ObjectNameInvalid ≡ checked wantsDirectory parents x
+unfolding named checked checkedLeaf _>>=_
+never-root wantsDirectory parents none e = refl
+never-root wantsDirectory parents (some l) e = let never : none ≡ some l = ap leafIn e in cc
+
+pub checked-some : (wantsDirectory : Bool) (parents ps : List (List ℕ)) (x : Option Leaf) (l : Leaf) (b : Bool) → passed (record { parents = ps; leaf = some l }) ≡ named parents x → b ≡ validLeaf wantsDirectory l → cond b (passed (record { parents = ps; leaf = some l })) (refused ObjectNameInvalid) ≡ checked wantsDirectory parents x
+unfolding named checked checkedLeaf _>>=_
+checked-some wantsDirectory parents ps none l b e v = cc
+checked-some wantsDirectory parents ps (some m) l b e v =
+    let one : some l ≡ some m = ap leafIn e in
+    let same-leaf : l ≡ m = cc in
+    let same-parents : ps ≡ parents = ap parentsIn e in
+    rw (← same-leaf, ← same-parents, ← v) (go b)
+  where
+    go : (t : Bool) → cond {A = Checked Path} t (passed (record { parents = ps; leaf = some l })) (refused ObjectNameInvalid) ≡ (cond t (passed l) (refused ObjectNameInvalid) >>= λ valid. passed (record { parents = ps; leaf = some valid }))
+    go true = refl
+    go false = refl
+
+-- components after others
+
+abbrev pub prefixed : List (List ℕ) → Checked Path → Checked Path
+unfolding _>>=_
+prefixed parents c = c >>= λ p. passed (record { parents = parents ++ p .parents; leaf = p .leaf })
+
+pub prefixed-nil : (c : Checked Path) → prefixed [] c ≡ c
+unfolding _>>=_
+prefixed-nil (refused s) = refl
+prefixed-nil (passed p) = refl
+
+pub prefixed-twice : (ps qs : List (List ℕ)) (c : Checked Path) → prefixed ps (prefixed qs c) ≡ prefixed (ps ++ qs) c
+unfolding _>>=_
+prefixed-twice ps qs (refused s) = refl
+prefixed-twice ps qs (passed p) = rw (append-assoc ps qs (p .parents))
+
+module _ (wantsDirectory : Bool) where
+  pub prefixed-last : (ps : List (List ℕ)) (c : List ℕ) → prefixed ps (parseComponents wantsDirectory (c ∷ [])) ≡ checked wantsDirectory ps (leafOf (split colon c))
+  unfolding parseComponents checked _>>=_
+  prefixed-last ps c = go (checkedLeaf wantsDirectory (leafOf (split colon c)))
+    where
+      go : (l : Checked Leaf) → prefixed ps (l >>= λ v. passed (record { parents = []; leaf = some v })) ≡ (l >>= λ v. passed (record { parents = ps; leaf = some v }))
+      go (refused s) = refl
+      go (passed v) = rw (append-nil ps)
+
+  pub parse-more : (c d : List ℕ) (ds : List (List ℕ)) → validFileName fileNameLimit c ≡ true → parseComponents wantsDirectory (c ∷ d ∷ ds) ≡ prefixed (c ∷ []) (parseComponents wantsDirectory (d ∷ ds))
+  unfolding parseComponents _>>=_ _>>_ refuseIf
+  parse-more c d ds e = rw e
+
+  pub parse-bad : (c d : List ℕ) (ds : List (List ℕ)) → validFileName fileNameLimit c ≡ false → parseComponents wantsDirectory (c ∷ d ∷ ds) ≡ refused ObjectNameInvalid
+  unfolding parseComponents _>>=_ _>>_ refuseIf
+  parse-bad c d ds e = rw e
+
+-- the path whole
+
+module _ (wantsDirectory wantsFile : Bool) (path : List ℕ) where
+  pub path-long : pathLimit < length path → refused ObjectNameInvalid ≡ parsePath wantsDirectory wantsFile path
+  unfolding parsePath _>>_ refuseIf
+  path-long h = rw (lt-leb (length path) pathLimit h)
+
+  pub path-trail : length path ≤ pathLimit → wantsFile ≡ true → endsIn backslash path ≡ true → refused ObjectNameInvalid ≡ parsePath wantsDirectory wantsFile path
+  unfolding parsePath _>>_ refuseIf
+  path-trail h f e = rw (le-leb (length path) pathLimit h, f, e)
+
+  pub path-fits : length path ≤ pathLimit → (wantsFile && endsIn backslash path) ≡ false → parseComponents wantsDirectory (components path) ≡ parsePath wantsDirectory wantsFile path
+  unfolding parsePath _>>_ refuseIf
+  path-fits h e = rw (le-leb (length path) pathLimit h, e)

@@ -1,0 +1,96 @@
+-- Laws of `leading`, the count of elements before the first that fails a test, and of parts that end there.
+use Prim.Native.Nat.{ℕ, zero, suc, _+_, _-_, _≤_, _<_}
+use mathlib.Core.Path.{_≡_, refl, sym, ap, _∙_}
+use mathlib.Core.Bool.{Bool, true, false, cond}
+use mathlib.Core.List.{List, [], _∷_}
+use native.Mathlib.Nat.{add-zero, sub-zero, zero-sub, suc-sub-suc}
+use native.Mathlib.Omega.{arith}
+use lib.Dec.{eqb}
+use lib.ListN.{length, getD, take, drop, drop-of-length-le, replicate, length-drop, length-take}
+use lib.Seq.{slice, take-nil, take-take, drop-drop}
+use borrow.Author.Tests.{eqb-true}
+use Rattle.lists.proofs.Scan.{drop-next}
+use Rattle.paths.specs.Positions.{leading, isSign}
+
+-- from a place on, as a loop finds it
+
+module _ (p : ℕ → Bool) (us : List ℕ) (i : ℕ) where
+  pub from-next : (d : ℕ) → i < length us → p (getD us i d) ≡ true → i + leading p (drop i us) ≡ i + 1 + leading p (drop (i + 1) us)
+  unfolding leading
+  from-next d h e = rw (drop-next us i d h, e) (omega arith)
+
+  pub from-stops : (d : ℕ) → i < length us → p (getD us i d) ≡ false → i + leading p (drop i us) ≡ i
+  unfolding leading
+  from-stops d h e = rw (drop-next us i d h, e) (add-zero i)
+
+  pub from-end : length us ≤ i → i + leading p (drop i us) ≡ i
+  unfolding leading
+  from-end h = rw (drop-of-length-le us h) (add-zero i)
+
+module _ (p : ℕ → Bool) where
+  pub leading-le : (us : List ℕ) → leading p us ≤ length us
+  unfolding leading
+  leading-le [] = omega arith
+  leading-le (u ∷ us) = go (p u) (leading-le us)
+    where
+      go : (b : Bool) → leading p us ≤ length us → cond b (suc (leading p us)) 0 ≤ suc (length us)
+      go true h = omega arith
+      go false h = omega arith
+
+  -- none passes where they end
+  pub leading-rest : (us : List ℕ) → leading p (drop (leading p us) us) ≡ 0
+  unfolding leading
+  leading-rest [] = refl
+  leading-rest (u ∷ us) = go (p u) refl (leading-rest us)
+    where
+      go : (b : Bool) → p u ≡ b → leading p (drop (leading p us) us) ≡ 0 → leading p (drop (cond b (suc (leading p us)) 0) (u ∷ us)) ≡ 0
+      go true e h = h
+      go false e h = rw e
+
+  -- those before are counted alike without the rest
+  pub leading-take : (us : List ℕ) → leading p (take (leading p us) us) ≡ leading p us
+  unfolding leading
+  leading-take [] = refl
+  leading-take (u ∷ us) = go (p u) refl (leading-take us)
+    where
+      go : (b : Bool) → p u ≡ b → leading p (take (leading p us) us) ≡ leading p us → leading p (take (cond b (suc (leading p us)) 0) (u ∷ us)) ≡ cond b (suc (leading p us)) 0
+      go true e h = rw e (ap suc h)
+      go false e h = refl
+
+-- elements that are the sign are as many signs
+pub leading-signs : (sign : ℕ) (us : List ℕ) → take (leading (isSign sign) us) us ≡ replicate (leading (isSign sign) us) sign
+unfolding leading
+leading-signs sign [] = refl
+leading-signs sign (u ∷ us) = go (eqb u sign) refl (leading-signs sign us)
+  where
+    n : ℕ
+    n = leading (isSign sign) us
+
+    go : (b : Bool) → eqb u sign ≡ b → take n us ≡ replicate n sign → take (cond b (suc n) 0) (u ∷ us) ≡ replicate (cond b (suc n) 0) sign
+    go true e h = cc (eqb-true u sign e, h)
+    go false e h = refl
+
+-- parts of a list
+
+module _ {A : Type 0} where
+  drop-take : (s e : ℕ) (xs : List A) → slice s e xs ≡ take (e - s) (drop s xs)
+  drop-take zero e xs = rw (sub-zero e)
+  drop-take (suc s) zero xs = rw (zero-sub (suc s))
+  drop-take (suc s) (suc e) [] = sym (take-nil (suc e - suc s))
+  drop-take (suc s) (suc e) (x ∷ xs) = rw (suc-sub-suc e s) (drop-take s e xs)
+
+  -- the part of n elements from s on
+  pub slice-start : (s n : ℕ) (xs : List A) → slice s (s + n) xs ≡ take n (drop s xs)
+  slice-start s n xs =
+      let e : s + n - s ≡ n = omega arith in
+      drop-take s (s + n) xs ∙ ap (λ (k : ℕ). take k (drop s xs)) e
+
+  -- a part's first n elements
+  pub slice-take : (s e n : ℕ) (xs : List A) → n ≤ length (slice s e xs) → take n (slice s e xs) ≡ slice s (s + n) xs
+  slice-take s e n xs h =
+      let within : n ≤ e - s = omega (arith, length-drop s (take e xs), length-take e xs) in
+      ap (take n) (drop-take s e xs) ∙ take-take n (e - s) (drop s xs) within ∙ sym (slice-start s n xs)
+
+  -- a part without its first n elements
+  pub slice-drop : (s e n : ℕ) (xs : List A) → drop n (slice s e xs) ≡ slice (s + n) e xs
+  slice-drop s e n xs = drop-drop n s (take e xs)

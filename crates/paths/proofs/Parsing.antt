@@ -1,0 +1,143 @@
+-- Laws of step 4: a component by its colons, the components in order, and the end of a path.
+use Prim.Native.Nat.{ℕ, suc, _+_, _-_, _≤_, _<_}
+use mathlib.Core.Path.{_≡_, refl, sym, ap, _∙_}
+use mathlib.Core.Bool.{Bool, true, false, not, cond, _&&_, false≢true}
+use mathlib.Core.List.{List, [], _∷_, map}
+use mathlib.Core.Option.{Option, none, some}
+use native.Mathlib.Omega.{arith}
+use lib.Dec.{eqb, ltb}
+use lib.ListN.{length, getD, take, drop, length-drop}
+use lib.Seq.{slice, slice-empty, drop-cons, take-all}
+use borrow.Author.Tests.{eqb-true, ltb-true, ltb-false}
+use Rattle.lists.specs.Lists.{all, isEmpty}
+use Rattle.lists.proofs.Scan.{same-equal}
+use Rattle.names.specs.Units.{colon, dataType, upper, folded, equalUnits}
+use Rattle.paths.specs.Paths.{Leaf, split, leafOf, endsIn}
+use Rattle.paths.specs.Positions.{leading, noSign, placeOf}
+use Rattle.paths.proofs.Leading.{leading-le, slice-take, slice-drop}
+use Rattle.paths.proofs.Splitting.{split-first, split-one, splitRest, not-empty}
+
+-- the last unit
+
+pub ends-empty : (sign : ℕ) (us : List ℕ) → length us ≡ 0 → endsIn sign us ≡ false
+unfolding endsIn
+ends-empty sign [] e = refl
+ends-empty sign (u ∷ us) e = absurd (omega arith)
+
+pub ends-last : (sign : ℕ) (us : List ℕ) → (length us ≡ 0 → ⊥) → eqb (getD us (length us - 1) 0) sign ≡ endsIn sign us
+unfolding endsIn isEmpty
+ends-last sign [] ne = absurd (ne refl)
+ends-last sign (u ∷ []) ne = refl
+ends-last sign (u ∷ v ∷ us) ne =
+    let e : suc (suc (length us)) - 1 ≡ suc (suc (length us) - 1) = omega arith in
+    rw e (ends-last sign (v ∷ us) (λ z. omega arith))
+
+-- a part of a path, split where its first sign was found
+
+split-more : (sign : ℕ) (us : List ℕ) → leading (noSign sign) us < length us → split sign us ≡ take (leading (noSign sign) us) us ∷ split sign (drop (suc (leading (noSign sign) us)) us)
+split-more sign us h =
+    let m = leading (noSign sign) us in
+    split-first sign us ∙ ap (λ (l : List ℕ). take m us ∷ splitRest sign l) (drop-cons us m 0 h)
+
+-- from s up to e, where the code searched the units before e and found the sign, or the end, at k
+module _ (sign : ℕ) (path : List ℕ) (s e k : ℕ) {units : List ℕ} (before : units ≡ take e path) (found : k ≡ placeOf sign units s) where
+  count : ℕ
+  count = leading (noSign sign) (slice s e path)
+
+  place : k ≡ s + count
+  unfolding count placeOf
+  place = found ∙ ap (λ (l : List ℕ). s + leading (noSign sign) (drop s l)) before
+
+  size : length (slice s e path) ≡ length units - s
+  size = length-drop s (take e path) ∙ ap (λ (l : List ℕ). length l - s) (sym before)
+
+  first-part : take count (slice s e path) ≡ slice s k path
+  unfolding count
+  first-part =
+      slice-take s e count path (leading-le (noSign sign) (slice s e path))
+      ∙ ap (λ (n : ℕ). slice s n path) (sym place)
+
+  split-last : length units ≤ k → split sign (slice s e path) ≡ slice s k path ∷ []
+  unfolding count
+  split-last h =
+      let whole : length (slice s e path) ≤ count = omega (arith, place, size) in
+      split-one sign (slice s e path) whole
+      ∙ ap (λ (l : List ℕ). l ∷ []) (sym (take-all count (slice s e path) whole) ∙ first-part)
+
+  split-found : k < length units → split sign (slice s e path) ≡ slice s k path ∷ split sign (slice (k + 1) e path)
+  unfolding count
+  split-found h =
+      let rest : s + suc count ≡ k + 1 = omega (arith, place) in
+      split-more sign (slice s e path) (omega (arith, place, size))
+      ∙ ap (λ (l : List ℕ). l ∷ split sign (drop (suc count) (slice s e path))) first-part
+      ∙ ap (λ (l : List ℕ). slice s k path ∷ split sign l) (slice-drop s e (suc count) path ∙ ap (λ (n : ℕ). slice n e path) rest)
+
+  part-some : (s ≡ k → ⊥) → isEmpty (slice s k path) ≡ false
+  unfolding count
+  part-some ne = rw (← first-part) (not-empty (noSign sign) (slice s e path) (λ z. ne (omega (arith, place))))
+
+and-true : (a b : Bool) → (a && b) ≡ true → (a ≡ true) × (b ≡ true)
+and-true true b h = (refl, h)
+and-true false b h = (h, cc)
+
+-- a type: `$DATA` has no colon, so more colons are none
+
+no-colon : (t : List ℕ) → all (noSign colon) (map (folded true) t) ≡ true → length t ≤ leading (noSign colon) t
+unfolding all leading folded upper
+no-colon [] h = omega arith
+no-colon (u ∷ us) h = go (eqb u colon) refl (no-colon us)
+  where
+    rest : all (noSign colon) (map (folded true) us) ≡ true
+    rest = and-true (noSign colon (folded true u)) (all (noSign colon) (map (folded true) us)) h .1
+
+    go : (b : Bool) → eqb u colon ≡ b → (all (noSign colon) (map (folded true) us) ≡ true → length us ≤ leading (noSign colon) us) → suc (length us) ≤ cond (not b) (suc (leading (noSign colon) us)) 0
+    go true e tail =
+        let never : false ≡ true = rw (eqb-true u colon e) at (and-true (noSign colon (folded true u)) (all (noSign colon) (map (folded true) us)) h .0) in
+        absurd (false≢true never)
+    go false e tail = omega (arith, tail rest)
+
+data-type : (t : List ℕ) → equalUnits true t dataType ≡ true → length t ≤ leading (noSign colon) t
+unfolding equalUnits all folded upper
+data-type t e = no-colon t (rw (same-equal (map (folded true) t) (map (folded true) dataType) e))
+
+pub leaf-type : (f s t : List ℕ) → leafOf (f ∷ s ∷ split colon t) ≡ cond (equalUnits true t dataType) (some (record { file = f; stream = s; colon = true })) none
+unfolding leafOf
+leaf-type f s t = go (ltb (leading (noSign colon) t) (length t)) refl
+  where
+    m : ℕ
+    m = leading (noSign colon) t
+
+    longer : (b : Bool) → equalUnits true t dataType ≡ b → m < length t → _≡_ {A = Option Leaf} none (cond b (some (record { file = f; stream = s; colon = true })) none)
+    longer true e h = absurd (omega (arith, data-type t e))
+    longer false e h = refl
+
+    go : (b : Bool) → ltb m (length t) ≡ b → leafOf (f ∷ s ∷ split colon t) ≡ cond (equalUnits true t dataType) (some (record { file = f; stream = s; colon = true })) none
+    go true e = rw (split-more colon t (ltb-true m (length t) e), split-first colon (drop (suc m) t)) (longer (equalUnits true t dataType) refl (ltb-true m (length t) e))
+    go false e = rw (split-one colon t (ltb-false m (length t) e))
+
+-- the last component by the colons found
+
+module _ (path : List ℕ) (s e k : ℕ) {units : List ℕ} (before : units ≡ take e path) (found : k ≡ placeOf colon units s) where
+  pub leaf-file : length units ≤ k → leafOf (split colon (slice s e path)) ≡ some (record { file = slice s k path; stream = []; colon = false })
+  unfolding leafOf
+  leaf-file h = rw (split-last colon path s e k before found h)
+
+  pub leaf-more : k < length units → leafOf (split colon (slice s e path)) ≡ leafOf (slice s k path ∷ split colon (slice (k + 1) e path))
+  leaf-more h = ap leafOf (split-found colon path s e k before found h)
+
+  pub stream-type : (f : List ℕ) (b : Bool) {type : List ℕ} → type ≡ slice (k + 1) e path → k < length units → equalUnits true type dataType ≡ b → leafOf (f ∷ split colon (slice s e path)) ≡ cond b (some (record { file = f; stream = slice s k path; colon = true })) none
+  stream-type f b part h typed =
+      ap (λ (l : List (List ℕ)). leafOf (f ∷ l)) (split-found colon path s e k before found h)
+      ∙ rw (← typed, part) (leaf-type f (slice s k path) (slice (k + 1) e path))
+
+  pub stream-empty : (f : List ℕ) → length units ≤ k → s ≡ k → leafOf (f ∷ split colon (slice s e path)) ≡ none
+  unfolding leafOf isEmpty
+  stream-empty f h same =
+      ap (λ (l : List (List ℕ)). leafOf (f ∷ l)) (split-last colon path s e k before found h)
+      ∙ rw (same, slice-empty k path)
+
+  pub stream-only : (f : List ℕ) → length units ≤ k → (s ≡ k → ⊥) → leafOf (f ∷ split colon (slice s e path)) ≡ some (record { file = f; stream = slice s k path; colon = true })
+  unfolding leafOf
+  stream-only f h ne =
+      ap (λ (l : List (List ℕ)). leafOf (f ∷ l)) (split-last colon path s e k before found h)
+      ∙ rw (part-some colon path s e k before found ne)

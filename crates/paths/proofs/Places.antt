@@ -1,0 +1,106 @@
+-- Laws of the places that the code finds in a path: the next component, and the components before it.
+use Prim.Native.Nat.{ℕ, zero, suc, _+_, _≤_}
+use mathlib.Core.Path.{_≡_, refl, sym, ap, _∙_}
+use mathlib.Core.List.{List, [], _∷_, _++_}
+use native.Mathlib.Nat.{zero-add, add-zero}
+use native.Mathlib.Omega.{arith}
+use lib.ListN.{length, take, drop, replicate, length-drop}
+use lib.Seq.{slice, drop-drop, take-add}
+use Rattle.names.specs.Units.{backslash}
+use Rattle.paths.specs.Paths.{components}
+use Rattle.paths.specs.Positions.{leading, isSign, noSign, placeOf, placeAfter, partOf, nextComponent}
+use Rattle.paths.proofs.Leading.{leading-le, leading-rest, leading-signs, slice-start}
+use Rattle.paths.proofs.Splitting.{components-skip, components-first, components-none, components-single, components-trail, signs-alone, Open, open-signs, open-trail}
+
+module _ (path : List ℕ) (at : ℕ) where
+  abbrev pub nextStart : ℕ
+  nextStart = nextComponent path at .start
+
+  abbrev pub nextEnd : ℕ
+  nextEnd = nextComponent path at .end
+
+  pub next-order : (at ≤ nextStart) × (nextStart ≤ nextEnd)
+  unfolding nextComponent placeOf placeAfter
+  next-order = (omega arith, omega arith)
+
+  pub next-within : (nextStart ≡ nextEnd → ⊥) → nextEnd ≤ length path
+  unfolding nextComponent placeOf placeAfter
+  next-within ne =
+      let s = at + leading (isSign backslash) (drop at path) in
+      omega (arith, leading-le (noSign backslash) (drop s path), length-drop s path)
+
+  skipped : components (drop at path) ≡ components (drop nextStart path)
+  unfolding nextComponent placeAfter
+  skipped =
+      let n = leading (isSign backslash) (drop at path) in
+      components-skip (drop at path) ∙ ap components (drop-drop n at path)
+
+  pub next-found : (nextStart ≡ nextEnd → ⊥) → components (drop at path) ≡ partOf path (nextComponent path at) ∷ components (drop nextEnd path)
+  unfolding nextComponent placeOf placeAfter partOf
+  next-found ne =
+      let s = at + leading (isSign backslash) (drop at path) in
+      let m = leading (noSign backslash) (drop s path) in
+      skipped
+      ∙ components-first (drop s path) (λ e. ne (omega arith))
+      ∙ cc (slice-start s m path, drop-drop m s path)
+
+  pub next-none : nextStart ≡ nextEnd → components (drop at path) ≡ []
+  unfolding nextComponent placeOf placeAfter
+  next-none e =
+      let n = leading (isSign backslash) (drop at path) in
+      let s = at + n in
+      skipped
+      ∙ components-none (drop s path) (rw (drop-drop n at path) at (leading-rest (isSign backslash) (drop at path))) (omega arith)
+
+-- the components before a place that is cut open
+
+pub first-open : (path : List ℕ) → Open (take (nextStart path 0) path)
+unfolding nextComponent placeAfter
+first-open path = rw (zero-add (leading (isSign backslash) path), leading-signs backslash path) (open-signs (leading (isSign backslash) path))
+
+pub first-parents : (path : List ℕ) → components (take (nextStart path 0) path) ≡ []
+unfolding nextComponent placeAfter
+first-parents path = rw (zero-add (leading (isSign backslash) path), leading-signs backslash path) (signs-alone (leading (isSign backslash) path))
+
+-- a component from s to e, with another after it: the path may be cut before the second, and the first is the last there
+
+module _ (path : List ℕ) (s e : ℕ) (ends : e ≡ placeOf backslash path s) where
+  closed : leading (noSign backslash) (drop e path) ≡ 0
+  unfolding placeOf
+  closed =
+      let m = leading (noSign backslash) (drop s path) in
+      rw (ends, ← drop-drop m s path) (leading-rest (noSign backslash) (drop s path))
+
+  -- at least one separator stands after the first
+  gap : (nextStart path e ≡ nextEnd path e → ⊥) → (k : ℕ) × (leading (isSign backslash) (drop e path) ≡ suc k)
+  unfolding nextComponent placeOf placeAfter
+  gap more = go (leading (isSign backslash) (drop e path)) refl
+    where
+      go : (n : ℕ) → leading (isSign backslash) (drop e path) ≡ n → (k : ℕ) × (leading (isSign backslash) (drop e path) ≡ suc k)
+      go zero g = absurd (more (rw (g, add-zero e, closed) (sym (add-zero e))))
+      go (suc k) g = (k, g)
+
+  cut : take (nextStart path e) path ≡ take e path ++ replicate (leading (isSign backslash) (drop e path)) backslash
+  unfolding nextComponent placeAfter
+  cut =
+      let n = leading (isSign backslash) (drop e path) in
+      take-add e n path ∙ ap (λ (l : List ℕ). take e path ++ l) (leading-signs backslash (drop e path))
+
+  pub next-open : (nextStart path e ≡ nextEnd path e → ⊥) → Open (take (nextStart path e) path)
+  next-open more = let g = gap more in rw (cut, g .1) (open-trail (take e path) (g .0))
+
+  last-added : (s ≡ e → ⊥) → Open (take s path) → components (take e path) ≡ components (take s path) ++ (slice s e path ∷ [])
+  unfolding placeOf
+  last-added some opened =
+      let m = leading (noSign backslash) (drop s path) in
+      let part : slice s e path ≡ take m (drop s path) = ap (λ (k : ℕ). slice s k path) ends ∙ slice-start s m path in
+      ap (λ (k : ℕ). components (take k path)) ends
+      ∙ ap components (take-add s m path)
+      ∙ opened (take m (drop s path))
+      ∙ ap (λ (l : List (List ℕ)). components (take s path) ++ l) (components-single (drop s path) (λ z. some (omega arith)))
+      ∙ ap (λ (l : List ℕ). components (take s path) ++ (l ∷ [])) (sym part)
+
+  pub next-parents : (nextStart path e ≡ nextEnd path e → ⊥) → (s ≡ e → ⊥) → Open (take s path) → components (take (nextStart path e) path) ≡ components (take s path) ++ (slice s e path ∷ [])
+  next-parents more some opened =
+      let g = gap more in
+      rw (cut, g .1) (components-trail (take e path) (g .0)) ∙ last-added some opened

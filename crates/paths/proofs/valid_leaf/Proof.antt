@@ -1,0 +1,80 @@
+-- `names::paths::valid_leaf` meets its contract, by the names and the colon.
+use mathlib.Core.Path.{_≡_, sym, ap, _∙_}
+use borrow.Author.Needs.{needs}
+use borrow.Author.Tests.{not-true, not-false}
+use Rattle.records.specs.Sizes.{fileNameLimit, streamNameLimit}
+use Rattle.names.specs.Names.{validFileName, validStreamName}
+use Rattle.paths.specs.Positions.{partOf, asLeaf}
+use Rattle.paths.proofs.Judging.{leaf-file-bad, leaf-stream-bad, leaf-of-directory, leaf-of-any}
+use Rattle.paths.proofs.valid_leaf.Statement.{statement}
+use Rattle.paths.proofs.valid_leaf.Tie as tie
+
+part-of-requires : tie.Need-part-of-requires
+part-of-requires c κs = search needs
+
+valid-file-name-requires : tie.Need-valid-file-name-requires
+valid-file-name-requires c κs = search needs
+
+-- what the two calls say of the names
+file-is : (c : tie.After-valid-file-name) → c .valid-file-name .result ≡ validFileName fileNameLimit (partOf (c .before .before .before .before .args .path .now) (c .before .before .before .before .args .leaf .file))
+file-is c = c .valid-file-name .ensures ∙ ap (validFileName fileNameLimit) (c .before .part-of .ensures)
+
+returns : tie.Need-returns
+unfolding asLeaf
+returns c =
+    let s = c .before .before .before .before .before .args in
+    sym
+    (leaf-file-bad (s .wants-directory) (asLeaf (s .path .now) (s .leaf))
+    (sym (file-is (c .before)) ∙ not-true _ (c .if1 .taken)))
+
+part-of-requires-2 : tie.Need-part-of-requires-2
+part-of-requires-2 c κs = search needs
+
+valid-stream-name-requires : tie.Need-valid-stream-name-requires
+valid-stream-name-requires c κs = search needs
+
+stream-is : (c : tie.After-valid-stream-name) → c .valid-stream-name .result ≡ validStreamName streamNameLimit (partOf (c .before .before .before .before .before .before .before .before .args .path .now) (c .before .before .before .before .before .before .before .before .args .leaf .stream))
+stream-is c = c .valid-stream-name .ensures ∙ ap (validStreamName streamNameLimit) (c .before .part-of2 .ensures)
+
+returns-2 : tie.Need-returns-2
+unfolding asLeaf
+returns-2 c =
+    let s = c .before .before .before .before .before .before .before .before .before .args in
+    sym
+    (leaf-stream-bad (s .wants-directory) (asLeaf (s .path .now) (s .leaf))
+    (sym (stream-is (c .before)) ∙ not-true _ (c .if2 .taken)))
+
+returns-3 : tie.Need-returns-3
+unfolding asLeaf
+returns-3 c =
+    let v = c .before .before in
+    let f = v .before .before .before .before in
+    let s = f .before .before .before .before .before .args in
+    leaf-of-directory (s .wants-directory) (asLeaf (s .path .now) (s .leaf))
+    (sym (file-is (f .before)) ∙ not-false _ (f .if1 .left))
+    (sym (stream-is (v .before)) ∙ not-false _ (v .if2 .left))
+    (c .before .if3 .taken)
+
+returns-4 : tie.Need-returns-4
+unfolding asLeaf
+returns-4 c =
+    let v = c .before in
+    let f = v .before .before .before .before in
+    let s = f .before .before .before .before .before .args in
+    leaf-of-any (s .wants-directory) (asLeaf (s .path .now) (s .leaf))
+    (sym (file-is (f .before)) ∙ not-false _ (f .if1 .left))
+    (sym (stream-is (v .before)) ∙ not-false _ (v .if2 .left))
+    (c .if3 .left)
+
+pub valid-leaf-spec : {M : Type 1} → statement M
+valid-leaf-spec =
+    tie.close
+    (tie.spec
+    part-of-requires
+    valid-file-name-requires
+    returns
+    part-of-requires-2
+    valid-stream-name-requires
+    returns-2
+    returns-3
+    returns-4)

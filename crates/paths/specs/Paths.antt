@@ -1,0 +1,79 @@
+-- Step 4: a path taken apart, with every refusal of OBJECT_NAME_INVALID.
+use Prim.Native.Nat.{ℕ}
+use mathlib.Core.Bool.{Bool, true, false, cond, not, _&&_}
+use mathlib.Core.List.{List, [], _∷_}
+use mathlib.Core.Option.{Option, none, some}
+use lib.Dec.{eqb, leb}
+use lib.ListN.{length}
+use Rattle.lists.specs.Lists.{all, isEmpty, keep}
+use Rattle.records.specs.Sizes.{fileNameLimit, streamNameLimit, pathLimit}
+use Rattle.records.specs.Checked.{Checked, refused, passed, _>>=_, _>>_, refuseIf}
+use Rattle.records.specs.declared.Status.the-variants.{ObjectNameInvalid}
+use Rattle.names.specs.Units.{backslash, colon, dataType, equalUnits}
+use Rattle.names.specs.Names.{validFileName, validStreamName}
+
+-- the last component: its file name, its stream name, and whether it has a colon
+pub record Leaf : Type 0 where
+  pub file : List ℕ
+  pub stream : List ℕ
+  pub colon : Bool
+
+-- a valid path: the components before the last, and the last; without a component it is the root
+pub record Path : Type 0 where
+  pub parents : List (List ℕ)
+  pub leaf : Option Leaf
+
+-- the parts of a list between separators, one more than there are separators
+unfoldable pub startPart : ℕ → List (List ℕ) → List (List ℕ)
+startPart u [] = (u ∷ []) ∷ []
+startPart u (part ∷ parts) = (u ∷ part) ∷ parts
+
+unfoldable pub split : ℕ → List ℕ → List (List ℕ)
+split sep [] = [] ∷ []
+split sep (u ∷ us) = cond (eqb u sep) ([] ∷ split sep us) (startPart u (split sep us))
+
+-- backslashes separate; empty components vanish
+unfoldable pub components : List ℕ → List (List ℕ)
+components path = keep (λ c. not (isEmpty c)) (split backslash path)
+
+unfoldable pub endsIn : ℕ → List ℕ → Bool
+endsIn sign [] = false
+endsIn sign (u ∷ us) = cond (isEmpty us) (eqb u sign) (endsIn sign us)
+
+-- a component by its colons: FILE, FILE:STREAM or FILE:STREAM:TYPE. One that ends in a colon, has more than two, or has
+-- a type other than $DATA is none of these
+unfoldable pub leafOf : List (List ℕ) → Option Leaf
+leafOf [] = none
+leafOf (f ∷ []) = some (record { file = f; stream = []; colon = false })
+leafOf (f ∷ s ∷ []) = cond (isEmpty s) none (some (record { file = f; stream = s; colon = true }))
+leafOf (f ∷ s ∷ t ∷ []) = cond (equalUnits true t dataType) (some (record { file = f; stream = s; colon = true })) none
+leafOf (f ∷ s ∷ t ∷ u ∷ us) = none
+
+-- the last component: its names are valid, and it has no colon where a directory is asked for
+unfoldable pub validLeaf : Bool → Leaf → Bool
+validLeaf wantsDirectory l =
+    validFileName fileNameLimit (l .file)
+    && validStreamName streamNameLimit (l .stream)
+    && not (wantsDirectory && l .colon)
+
+unfoldable pub checkedLeaf : Bool → Option Leaf → Checked Leaf
+checkedLeaf wantsDirectory none = refused ObjectNameInvalid
+checkedLeaf wantsDirectory (some l) = cond (validLeaf wantsDirectory l) (passed l) (refused ObjectNameInvalid)
+
+-- components in order, each before the last a valid file name (so without a colon)
+unfoldable pub parseComponents : Bool → List (List ℕ) → Checked Path
+parseComponents wantsDirectory [] = passed (record { parents = []; leaf = none })
+parseComponents wantsDirectory (c ∷ []) = do
+  l ← checkedLeaf wantsDirectory (leafOf (split colon c))
+  passed (record { parents = []; leaf = some l })
+parseComponents wantsDirectory (c ∷ d ∷ ds) = do
+  refuseIf (not (validFileName fileNameLimit c)) ObjectNameInvalid
+  rest ← parseComponents wantsDirectory (d ∷ ds)
+  passed (record { parents = c ∷ rest .parents; leaf = rest .leaf })
+
+-- the path whole: not over the limit, and no trailing backslash where a file that is no directory is asked for
+unfoldable pub parsePath : Bool → Bool → List ℕ → Checked Path
+parsePath wantsDirectory wantsFile path = do
+  refuseIf (not (leb (length path) pathLimit)) ObjectNameInvalid
+  refuseIf (wantsFile && endsIn backslash path) ObjectNameInvalid
+  parseComponents wantsDirectory (components path)

@@ -1,0 +1,48 @@
+-- `step4_paths::find_byte` answers a place within the bytes. The loop's invariant: so is i.
+use Prim.Native.Nat.{_≤_, _-_}
+use lib.ListN.{length, length-take}
+use native.Mathlib.Omega.{arith}
+use borrow.Author.Needs.{needs}
+use Rattle.step4_paths.proofs.find_byte.Statement.{statement}
+use Rattle.step4_paths.proofs.find_byte.Tie as tie
+
+abbrev Inv-loop : tie.InvT-loop
+Inv-loop bytes byte i₀ i = i ≤ length bytes
+
+abbrev μ-loop : tie.MeasureT-loop
+μ-loop bytes byte i₀ i = length bytes - i
+
+loop-holds : tie.Need-loop-holds Inv-loop μ-loop
+loop-holds c = search needs
+
+shared-slice-read-if1 : tie.Need-shared-slice-read-if1 Inv-loop μ-loop
+shared-slice-read-if1 c = search needs
+
+returns : tie.Need-returns Inv-loop μ-loop
+returns c = (omega arith, simp length-take (omega arith))
+
+add-i : tie.Need-add-i Inv-loop μ-loop
+add-i c = search needs
+
+loop-less : tie.Need-loop-less Inv-loop μ-loop
+loop-less c = search needs
+
+loop-again : tie.Need-loop-again Inv-loop μ-loop
+loop-again c = search needs
+
+returns-2 : tie.Need-returns-2 Inv-loop μ-loop
+returns-2 c = (omega arith, simp length-take (omega arith))
+
+pub find-byte-spec : {M : Type 1} → statement M
+find-byte-spec =
+    tie.close
+    (tie.spec
+    Inv-loop
+    μ-loop
+    loop-holds
+    shared-slice-read-if1
+    returns
+    add-i
+    loop-less
+    loop-again
+    returns-2)

@@ -1,0 +1,60 @@
+-- `step4_paths::units_of` answers 1,024 units. The loop's invariant: the array is as long as it began.
+use Prim.Native.Nat.{_-_}
+use mathlib.Core.Path.{_≡_}
+use lib.ListN.{length}
+use borrow.Author.Needs.{needs}
+use Rattle.step4_paths.proofs.units_of.Statement.{statement}
+use Rattle.step4_paths.proofs.units_of.Tie as tie
+
+abbrev Inv-loop : tie.InvT-loop
+Inv-loop bytes units₀ i₀ units i = length units ≡ 1024
+
+abbrev μ-loop : tie.MeasureT-loop
+μ-loop bytes units₀ i₀ units i = length bytes - i
+
+loop-holds : tie.Need-loop-holds Inv-loop μ-loop
+loop-holds c = search needs
+
+shared-slice-read-unit-of : tie.Need-shared-slice-read-unit-of Inv-loop μ-loop
+shared-slice-read-unit-of c = search needs
+
+unit-of-requires : tie.Need-unit-of-requires Inv-loop μ-loop
+unit-of-requires c κs = search needs
+
+mul-units : tie.Need-mul-units Inv-loop μ-loop
+mul-units c = search needs
+
+array-write-units : tie.Need-array-write-units Inv-loop μ-loop
+array-write-units c = search needs
+
+add-i : tie.Need-add-i Inv-loop μ-loop
+add-i c = search needs
+
+loop-less : tie.Need-loop-less Inv-loop μ-loop
+loop-less c = search needs
+
+loop-again : tie.Need-loop-again Inv-loop μ-loop
+loop-again c = search needs
+
+returns : tie.Need-returns Inv-loop μ-loop
+returns c = search needs
+
+returns-2 : tie.Need-returns-2 Inv-loop μ-loop
+returns-2 c = search needs
+
+pub units-of-spec : {M : Type 1} → statement M
+units-of-spec =
+    tie.close
+    (tie.spec
+    Inv-loop
+    μ-loop
+    loop-holds
+    shared-slice-read-unit-of
+    unit-of-requires
+    mul-units
+    array-write-units
+    add-i
+    loop-less
+    loop-again
+    returns
+    returns-2)
