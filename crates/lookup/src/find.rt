@@ -8,6 +8,8 @@ use records::LinkNo;
 use records::Stream;
 use records::StreamNo;
 use records::Volume;
+use records::sizes::LINK_SLOTS;
+use records::sizes::STREAM_SLOTS;
 use records::slots::stream_used;
 ghost use mathlib.Core.Path.{_≡_};
 ghost use mathlib.Core.Bool.{false};
@@ -45,7 +47,7 @@ pub fn find_link(v: Volume, dir: FileNo, name: &[u16], fold: bool) -> FoundLink
     ensures { λ r. ⌜ r ≡ foundLink (findLink (namespace v) fold dir (now (name .entry))) ⌝ }
 {
     let mut i: usize = 0;
-    while i < 192 {
+    while i < LINK_SLOTS {
         let l = v.links[i];
         if link_matches(l, dir, name, fold) {
             let link = i as u16;
@@ -60,7 +62,7 @@ pub fn find_stream(v: Volume, file: FileNo, name: &[u16], fold: bool) -> FoundSt
     ensures { λ r. ⌜ r ≡ foundStream (findStream (namespace v) fold file (now (name .entry))) ⌝ }
 {
     let mut i: usize = 0;
-    while i < 256 {
+    while i < STREAM_SLOTS {
         let s = v.streams[i];
         if stream_matches(s, file, name, fold) {
             let stream = i as u16;
