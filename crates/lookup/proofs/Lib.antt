@@ -1,1 +1,2 @@
+-- Laws that the proofs of the walk cite.
 pub mod Walking

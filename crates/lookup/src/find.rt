@@ -8,6 +8,8 @@ use records::LinkNo;
 use records::Stream;
 use records::StreamNo;
 use records::Volume;
+use records::sizes::LINK_SLOTS;
+use records::sizes::STREAM_SLOTS;
 use records::slots::stream_used;
 ghost use mathlib.Core.Path.{_≡_};
 ghost use mathlib.Core.Bool.{false};
@@ -23,8 +25,8 @@ pub fn link_matches(l: Link, dir: FileNo, name: &[u16], fold: bool) -> bool
     if l.parent.0 != dir.0 {
         return false;
     }
-    let stored = l.name;
-    name_equals(stored, name, fold)
+    let link_name = l.name;
+    name_equals(link_name, name, fold)
 }
 
 // Whether a stream is the file's, under the name.
@@ -37,18 +39,19 @@ pub fn stream_matches(s: Stream, file: FileNo, name: &[u16], fold: bool) -> bool
     if s.file.0 != file.0 {
         return false;
     }
-    let stored = s.name;
-    name_equals(stored, name, fold)
+    let stream_name = s.name;
+    name_equals(stream_name, name, fold)
 }
 
 pub fn find_link(v: Volume, dir: FileNo, name: &[u16], fold: bool) -> FoundLink
     ensures { λ r. ⌜ r ≡ foundLink (findLink (namespace v) fold dir (now (name .entry))) ⌝ }
 {
     let mut i: usize = 0;
-    while i < 192 {
+    while i < LINK_SLOTS {
         let l = v.links[i];
         if link_matches(l, dir, name, fold) {
-            return FoundLink::At(LinkNo(i as u16));
+            let link = i as u16;
+            return FoundLink::At(LinkNo(link));
         }
         i += 1;
     }
@@ -59,10 +62,11 @@ pub fn find_stream(v: Volume, file: FileNo, name: &[u16], fold: bool) -> FoundSt
     ensures { λ r. ⌜ r ≡ foundStream (findStream (namespace v) fold file (now (name .entry))) ⌝ }
 {
     let mut i: usize = 0;
-    while i < 256 {
+    while i < STREAM_SLOTS {
         let s = v.streams[i];
         if stream_matches(s, file, name, fold) {
-            return FoundStream::At(StreamNo(i as u16));
+            let stream = i as u16;
+            return FoundStream::At(StreamNo(stream));
         }
         i += 1;
     }

@@ -14,6 +14,7 @@ use records::FileNo;
 use records::LinkNo;
 use records::Status;
 use records::Volume;
+use records::sizes::LINK_SLOTS;
 use records::slots::is_directory;
 use records::tables::file_at;
 use records::tables::link_at;
@@ -36,10 +37,11 @@ pub fn walk_path(v: Volume, path: &[u16], last: Part, fold: bool) -> Walked
         let part = next_component(parents, at);
         if part.start == part.end {
             let mut i: usize = 0;
-            while i < 192 {
+            while i < LINK_SLOTS {
                 let l = v.links[i];
                 if link_matches(l, dir, name, fold) {
-                    break 'components Walked::Link(LinkNo(i as u16));
+                    let found = i as u16;
+                    break 'components Walked::Link(LinkNo(found));
                 }
                 i += 1;
             }

@@ -37,8 +37,8 @@ element-copy-out-l c = search needs
 link-matches-requires : tie.Need-link-matches-requires Inv-loop μ-loop
 link-matches-requires c κs = search needs
 
-cast-t14 : tie.Need-cast-t14 Inv-loop μ-loop
-cast-t14 c = search needs
+cast-link : tie.Need-cast-link Inv-loop μ-loop
+cast-link c = search needs
 
 returns : tie.Need-returns Inv-loop μ-loop
 unfolding foundLink linkNumber
@@ -84,7 +84,7 @@ find-link-spec =
     mul-l
     element-copy-out-l
     link-matches-requires
-    cast-t14
+    cast-link
     returns
     add-i
     loop-less

@@ -46,8 +46,8 @@ element-copy-out-s c = search needs
 stream-matches-requires : tie.Need-stream-matches-requires Inv-loop μ-loop
 stream-matches-requires c κs = search needs
 
-cast-t14 : tie.Need-cast-t14 Inv-loop μ-loop
-cast-t14 c = search needs
+cast-stream : tie.Need-cast-stream Inv-loop μ-loop
+cast-stream c = search needs
 
 returns : tie.Need-returns Inv-loop μ-loop
 unfolding foundStream streamNumber
@@ -93,7 +93,7 @@ find-stream-spec =
     mul-s
     element-copy-out-s
     stream-matches-requires
-    cast-t14
+    cast-stream
     returns
     add-i
     loop-less

@@ -1,5 +1,4 @@
 -- `lookup::find::link_matches` meets its contract.
-use mathlib.Core.Path.{_≡_}
 use borrow.Author.Needs.{needs}
 use borrow.Author.Tests.{eq-eqb, ne-eqb}
 use Rattle.lookup.specs.Lookup.{linkMatches}

@@ -1,5 +1,4 @@
 -- `lookup::walk::locate` meets its contract.
-use mathlib.Core.Path.{_≡_}
 use borrow.Author.Needs.{needs}
 use Rattle.records.specs.Checked.{_>>=_}
 use Rattle.paths.specs.Positions.{asPath}

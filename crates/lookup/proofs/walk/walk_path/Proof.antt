@@ -133,8 +133,8 @@ element-copy-out-l c = search needs
 link-matches-requires : tie.Need-link-matches-requires Inv-loop μ-loop Inv-components μ-components
 link-matches-requires c κs = search needs
 
-cast-t24 : tie.Need-cast-t24 Inv-loop μ-loop Inv-components μ-components
-cast-t24 c = search needs
+cast-found : tie.Need-cast-found Inv-loop μ-loop Inv-components μ-components
+cast-found c = search needs
 
 add-i : tie.Need-add-i Inv-loop μ-loop Inv-components μ-components
 add-i c = search needs
@@ -273,7 +273,7 @@ walk-path-spec =
     mul-l
     element-copy-out-l
     link-matches-requires
-    cast-t24
+    cast-found
     add-i
     loop-less
     loop-again
