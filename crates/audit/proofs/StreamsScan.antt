@@ -13,7 +13,7 @@ use Rattle.lists.specs.Lists.{all, allFrom, count, isEmpty, keep, pairs, same}
 use Rattle.lists.proofs.Tests.{and-left}
 use Rattle.lists.proofs.Default.{getD-default}
 use Rattle.lists.proofs.Keep.{count-keep, count-same}
-use Rattle.lists.proofs.Sweeps.{all-map, pairs-map, keep-map, count-map, numbered-same, keyed, ones, Counted, counted-start, counted-done, counted-fits, counted-adds, counted-skips}
+use Rattle.lists.proofs.Sweeps.{all-map, pairs-map, keep-map, count-map, numbered-same, keyed, ones, KeyedCounts, keyed-start, keyed-done, keyed-fits, keyed-adds, keyed-skips}
 use Rattle.names.specs.Names.{validStreamName, units, wellStored}
 use Rattle.records.specs.Sizes.{streamSlots, streamNameLimit}
 use Rattle.records.specs.Slots.{isUsed, isDirectory, fileUsed, fileAt, streamUsed, zeroFile}
@@ -134,8 +134,8 @@ at-most-one false = omega arith
 pub record Counted (ss : List Stream) (size : ℕ) (every unnamed : List ℕ) (i : ℕ) : Type 0 where
   pub everySize : length every ≡ size
   pub unnamedSize : length unnamed ≡ size
-  pub everyCounted : Counted fileOf streamUsed ss size every i
-  pub unnamedCounted : Counted fileOf emptyUsed ss size unnamed i
+  pub everyKeyedCounts : KeyedCounts fileOf streamUsed ss size every i
+  pub unnamedKeyedCounts : KeyedCounts fileOf emptyUsed ss size unnamed i
 
 module _ (ss : List Stream) (size : ℕ) where
   pub none-counted : Counted ss size (replicate size 0) (replicate size 0) 0
@@ -143,8 +143,8 @@ module _ (ss : List Stream) (size : ℕ) where
       record {
         everySize = length-replicate size 0;
         unnamedSize = length-replicate size 0;
-        everyCounted = counted-start fileOf streamUsed ss size;
-        unnamedCounted = counted-start fileOf emptyUsed ss size;
+        everyKeyedCounts = keyed-start fileOf streamUsed ss size;
+        unnamedKeyedCounts = keyed-start fileOf emptyUsed ss size;
       }
 
   module _ (every unnamed : List ℕ) (i : ℕ) (counted : Counted ss size every unnamed i) where
@@ -157,11 +157,11 @@ module _ (ss : List Stream) (size : ℕ) where
         record {
           everySize = length-set every (fileOf (getD ss i d)) _ ∙ counted .everySize;
           unnamedSize = length-set unnamed (fileOf (getD ss i d)) _ ∙ counted .unnamedSize;
-          everyCounted =
-              counted-adds fileOf streamUsed ss size every i d below (counted .everyCounted) (counted .everySize) of
+          everyKeyedCounts =
+              keyed-adds fileOf streamUsed ss size every i d below (counted .everyKeyedCounts) (counted .everySize) of
               (ap (λ (b : Bool). getD every (fileOf (getD ss i d)) 0 + ones b) (sym u));
-          unnamedCounted =
-              counted-adds fileOf emptyUsed ss size unnamed i d below (counted .unnamedCounted) (counted .unnamedSize) of
+          unnamedKeyedCounts =
+              keyed-adds fileOf emptyUsed ss size unnamed i d below (counted .unnamedKeyedCounts) (counted .unnamedSize) of
               (ap (λ (k : ℕ). getD unnamed (fileOf (getD ss i d)) 0 + k)
               (e ∙ ap (λ (b : Bool). ones (b && isEmpty (units (getD ss i d .name)))) (sym u)));
         }
@@ -173,8 +173,8 @@ module _ (ss : List Stream) (size : ℕ) where
         record {
           everySize = counted .everySize;
           unnamedSize = counted .unnamedSize;
-          everyCounted = counted-skips fileOf streamUsed ss size every i d below (counted .everyCounted) w;
-          unnamedCounted = counted-skips fileOf emptyUsed ss size unnamed i d below (counted .unnamedCounted) (⊎-elim unused inr w);
+          everyKeyedCounts = keyed-skips fileOf streamUsed ss size every i d below (counted .everyKeyedCounts) w;
+          unnamedKeyedCounts = keyed-skips fileOf emptyUsed ss size unnamed i d below (counted .unnamedKeyedCounts) (⊎-elim unused inr w);
         }
       where
         unused : streamUsed (getD ss i d) ≡ false
@@ -184,14 +184,14 @@ module _ (ss : List Stream) (size : ℕ) where
     -- a count has room for one more
     pub every-room : (d : Stream) → fileOf (getD ss i d) < size → getD every (fileOf (getD ss i d)) 0 + 1 ≤ length ss + 1
     every-room d of =
-        omega (arith, counted-fits fileOf streamUsed ss size every i (counted .everyCounted) (fileOf (getD ss i d)) of)
+        omega (arith, keyed-fits fileOf streamUsed ss size every i (counted .everyKeyedCounts) (fileOf (getD ss i d)) of)
 
     pub unnamed-room : (d : Stream) {one : ℕ} → fileOf (getD ss i d) < size → one ≡ cond (isEmpty (units (getD ss i d .name))) 1 0
         → getD unnamed (fileOf (getD ss i d)) 0 + one ≤ length ss + 1
     unnamed-room d {one} of e =
         omega (
           arith,
-          counted-fits fileOf emptyUsed ss size unnamed i (counted .unnamedCounted) (fileOf (getD ss i d)) of,
+          keyed-fits fileOf emptyUsed ss size unnamed i (counted .unnamedKeyedCounts) (fileOf (getD ss i d)) of,
           e,
           at-most-one (isEmpty (units (getD ss i d .name))),
         )
@@ -200,8 +200,8 @@ module _ (ss : List Stream) (size : ℕ) where
         → (getD every n 0 ≡ count (streamOf (file n)) (keep bareUsed (map bare ss)))
         × (getD unnamed n 0 ≡ count (unnamedOf (file n)) (keep bareUsed (map bare ss)))
     all-counted past n b = (
-      counted-done fileOf streamUsed ss size every i (counted .everyCounted) n b past ∙ count-of-file ss n,
-      counted-done fileOf emptyUsed ss size unnamed i (counted .unnamedCounted) n b past ∙ count-unnamed ss n,
+      keyed-done fileOf streamUsed ss size every i (counted .everyKeyedCounts) n b past ∙ count-of-file ss n,
+      keyed-done fileOf emptyUsed ss size unnamed i (counted .unnamedKeyedCounts) n b past ∙ count-unnamed ss n,
     )
 
 -- a file, by the counts found

@@ -131,20 +131,20 @@ module _ {A : Type 0} (key : A → ℕ) (p : A → Bool) (xs : List A) where
   abbrev pub keyed : ℕ → A → Bool
   keyed n x = eqb (key x) n && p x
 
-  abbrev pub Counted : ℕ → List ℕ → ℕ → Type 0
-  Counted size cs i = (n : ℕ) → n < size → getD cs n 0 + count (keyed n) (drop i xs) ≡ count (keyed n) xs
+  abbrev pub KeyedCounts : ℕ → List ℕ → ℕ → Type 0
+  KeyedCounts size cs i = (n : ℕ) → n < size → getD cs n 0 + count (keyed n) (drop i xs) ≡ count (keyed n) xs
 
-  pub counted-start : (size : ℕ) → Counted size (replicate size 0) 0
-  counted-start size n b = omega (arith, getD-replicate {A = ℕ} size n 0 0 b)
+  pub keyed-start : (size : ℕ) → KeyedCounts size (replicate size 0) 0
+  keyed-start size n b = omega (arith, getD-replicate {A = ℕ} size n 0 0 b)
 
-  module _ (size : ℕ) (cs : List ℕ) (i : ℕ) (tally : Counted size cs i) (n : ℕ) (b : n < size) where
-    pub counted-done : length xs ≤ i → getD cs n 0 ≡ count (keyed n) xs
-    counted-done past = omega (arith, tally n b, count-end xs i past (keyed n))
+  module _ (size : ℕ) (cs : List ℕ) (i : ℕ) (sums : KeyedCounts size cs i) (n : ℕ) (b : n < size) where
+    pub keyed-done : length xs ≤ i → getD cs n 0 ≡ count (keyed n) xs
+    keyed-done past = omega (arith, sums n b, count-end xs i past (keyed n))
 
-    pub counted-fits : getD cs n 0 ≤ length xs
-    counted-fits = omega (arith, tally n b, count-bound (keyed n) xs)
+    pub keyed-fits : getD cs n 0 ≤ length xs
+    keyed-fits = omega (arith, sums n b, count-bound (keyed n) xs)
 
-  module _ (size : ℕ) (cs : List ℕ) (i : ℕ) (d : A) (below : i < length xs) (tally : Counted size cs i) where
+  module _ (size : ℕ) (cs : List ℕ) (i : ℕ) (d : A) (below : i < length xs) (sums : KeyedCounts size cs i) where
     abbrev here : A
     here = getD xs i d
 
@@ -152,9 +152,9 @@ module _ {A : Type 0} (key : A → ℕ) (p : A → Bool) (xs : List A) where
     not-here n e = rw (ne-eqb (key here) n (λ q. e (sym q)))
 
     -- the place is counted at its key, if it passes
-    pub counted-adds : length cs ≡ size → key here < size → {more : ℕ} → more ≡ getD cs (key here) 0 + ones (p here)
-        → Counted size (set cs (key here) more) (i + 1)
-    counted-adds l k {more} e n b = go (eqb n (key here)) refl
+    pub keyed-adds : length cs ≡ size → key here < size → {more : ℕ} → more ≡ getD cs (key here) 0 + ones (p here)
+        → KeyedCounts size (set cs (key here) more) (i + 1)
+    keyed-adds l k {more} e n b = go (eqb n (key here)) refl
       where
         at-key : n ≡ key here → ones (keyed n here) ≡ ones (p here)
         at-key q = rw (eq-eqb (key here) n (sym q))
@@ -165,7 +165,7 @@ module _ {A : Type 0} (key : A → ℕ) (p : A → Bool) (xs : List A) where
             let r = eqb-true n (key here) q in
             omega (
               arith,
-              tally n b,
+              sums n b,
               count-rest xs i d below (keyed n),
               at-key r,
               e,
@@ -176,12 +176,12 @@ module _ {A : Type 0} (key : A → ℕ) (p : A → Bool) (xs : List A) where
         go false q =
             let r = eqb-false n (key here) q in
             omega
-            (arith, tally n b, count-rest xs i d below (keyed n), not-here n r, getD-set-other cs (key here) n more 0 r)
+            (arith, sums n b, count-rest xs i d below (keyed n), not-here n r, getD-set-other cs (key here) n more 0 r)
 
     -- a place that fails, or whose key is past the end, is passed over
-    pub counted-skips : (p here ≡ false) ⊎ (size ≤ key here) → Counted size cs (i + 1)
-    counted-skips w n b =
-        omega (arith, tally n b, count-rest xs i d below (keyed n), ⊎-elim fails (λ e. not-here n (λ q. past q e)) w)
+    pub keyed-skips : (p here ≡ false) ⊎ (size ≤ key here) → KeyedCounts size cs (i + 1)
+    keyed-skips w n b =
+        omega (arith, sums n b, count-rest xs i d below (keyed n), ⊎-elim fails (λ e. not-here n (λ q. past q e)) w)
       where
         past : n ≡ key here → size ≤ key here → ⊥
         past q e = omega arith
