@@ -1,7 +1,7 @@
 -- The worked cases hold, by evaluation of the definitions.
 use mathlib.Core.Path.{refl}
 use Rattle.store.specs.Evaluate.{storeRun, modelRun}
-use Rattle.store.specs.Cases.{seen, attributesOf, sevenCounts, observed, expected, Hold, workedCases, furtherCases}
+use Rattle.store.specs.Cases.{seen, attributesOf, sevenCounts, observed, expected, Hold, workedCases, furtherCases, stepCases}
 
 pub worked-cases : Hold workedCases
 unfolding storeRun modelRun seen attributesOf sevenCounts observed expected
@@ -10,3 +10,7 @@ worked-cases = refl
 pub further-cases : Hold furtherCases
 unfolding storeRun modelRun seen attributesOf sevenCounts observed expected
 further-cases = refl
+
+pub step-cases : Hold stepCases
+unfolding storeRun modelRun seen attributesOf sevenCounts observed expected
+step-cases = refl

@@ -15,7 +15,7 @@ use Rattle.records.specs.declared.File.{File}
 use Rattle.records.specs.declared.Stream.{Stream}
 use Rattle.records.specs.declared.ShareCounts.{ShareCounts}
 use Rattle.store.specs.Model.{Model, Reply}
-use Rattle.store.specs.Calls.{Call, opens, closes, Tables, Run, run, storeStep, modelStep}
+use Rattle.store.specs.Calls.{Call, opens, closes, setsReadOnly, Tables, Run, run, storeStep, modelStep}
 use Rattle.store.specs.Evaluate.{storeRun, modelRun}
 
 -- what a caller sees of a reply
@@ -102,9 +102,9 @@ expected c =
 abbrev pub Hold : List Case → Type 0
 Hold cases = map observed cases ≡ map expected cases
 
--- account 0, exact case, attributes 0; access, share, disposition, options, path
-abbrev pub asks : ℕ → ℕ → ℕ → ℕ → List ℕ → Call
-asks access share disposition options path =
+-- account 0, exact case; attributes, access, share, disposition, options, path
+abbrev pub asksWith : ℕ → ℕ → ℕ → ℕ → ℕ → List ℕ → Call
+asksWith attributes access share disposition options path =
     opens
     (record {
       account = 0;
@@ -112,10 +112,14 @@ asks access share disposition options path =
       share = share;
       disposition = disposition;
       options = options;
-      attributes = 0;
+      attributes = attributes;
       fold = false;
     })
     path
+
+-- the same with attributes 0: access, share, disposition, options, path
+abbrev pub asks : ℕ → ℕ → ℕ → ℕ → List ℕ → Call
+asks access share disposition options path = asksWith 0 access share disposition options path
 
 abbrev pub closesHandle : ℕ → Call
 closesHandle h = closes (record { 0 = h })
@@ -223,4 +227,55 @@ furtherCases =
       attributes = 0x10 ∷ 0x20 ∷ [];
       counts = none7 ∷ (1 ∷ 1 ∷ 0 ∷ 0 ∷ 1 ∷ 1 ∷ 0 ∷ []) ∷ [];
     }
+    ∷ []
+
+-- one refusal of each step that no case above reaches, in the paper's order
+-- after these calls, one that is refused so; the attributes of the used files then
+abbrev pub refusedAfter : List Call → Call → ℕ → List ℕ → List (List ℕ) → Case
+refusedAfter before call status attributes counts =
+    record {
+      masks = fullMasks;
+      before = before;
+      calls = call ∷ [];
+      replies = refusedWith status ∷ [];
+      attributes = attributes;
+      counts = counts;
+    }
+
+abbrev pub onlyRoot : Call → ℕ → Case
+onlyRoot call status = refusedAfter [] call status (0x10 ∷ []) (none7 ∷ [])
+
+abbrev pub readOnlyRoot : Call → ℕ → Case
+readOnlyRoot call status = refusedAfter (setsReadOnly true ∷ []) call status (0x10 ∷ []) (none7 ∷ [])
+
+abbrev pub refusedOnG : Call → ℕ → Case
+refusedOnG call status = refusedAfter (makesA ∷ []) call status (0x10 ∷ 0x20 ∷ []) (none7 ∷ writerOfA ∷ [])
+
+abbrev pub colonPath : List ℕ
+colonPath = 0x3A ∷ []
+
+abbrev pub stepCases : List Case
+stepCases =
+    -- 2 before 3, and 3
+    onlyRoot (asks 0 0 1 0x41 a) 0xC0000022
+    ∷ onlyRoot (asks 1 0 1 0x41 a) 0xC000000D
+    -- 4 before 5, and 5
+    ∷ readOnlyRoot (asks 1 0 2 0 colonPath) 0xC0000033
+    ∷ readOnlyRoot (asks 1 0 2 0 a) 0xC00000A2
+    -- 7: the name is missed before the read-only mark
+    ∷ readOnlyRoot (asks 1 0 1 0 a) 0xC0000034
+    ∷ readOnlyRoot (asks 1 0 3 0 a) 0xC00000A2
+    -- 8
+    ∷ onlyRoot (asks 1 0 1 0x40 []) 0xC00000BA
+    ∷ onlyRoot (asks 1 0 2 0x40 []) 0xC0000035
+    ∷ refusedOnG (asks 1 3 1 1 a) 0xC0000103
+    -- 9
+    ∷ onlyRoot (asksWith 0x100 1 0 2 1 a) 0xC000000D
+    -- 10: the root, another directory
+    ∷ onlyRoot (asks 1 0 0 0 []) 0xC0000022
+    ∷ refusedAfter (asks 0x80 7 2 1 a ∷ []) (asks 1 7 0 0 a) 0xC0000035 (0x10 ∷ 0x10 ∷ []) (none7 ∷ none7 ∷ [])
+    -- 11: found and created, missing and overwritten, hidden
+    ∷ refusedOnG (asks 1 3 2 0 a) 0xC0000035
+    ∷ refusedOnG (asks 1 3 4 0 a:log) 0xC0000034
+    ∷ refusedAfter (asksWith 2 0x80 7 2 0 a ∷ []) (asks 1 7 4 0 a) 0xC0000022 (0x10 ∷ 0x22 ∷ []) (none7 ∷ none7 ∷ [])
     ∷ []
