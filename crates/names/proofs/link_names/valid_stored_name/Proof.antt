@@ -1,4 +1,4 @@
--- `names::audit::valid_stored_name` meets its contract: the part before the first zero is the name's units.
+-- `names::link_names::valid_stored_name` meets its contract: the part before the first zero is the name's units.
 use Prim.Native.Nat.{ℕ, _≤_}
 use mathlib.Core.Path.{_≡_, sym, ap, _∙_}
 use mathlib.Core.List.{List}
@@ -9,8 +9,8 @@ use borrow.Author.Needs.{needs}
 use Rattle.records.specs.Sizes.{fileNameLimit}
 use Rattle.names.specs.Names.{units, validFileName}
 use Rattle.names.proofs.NameUnits.{units-prefix}
-use Rattle.names.proofs.audit.valid_stored_name.Statement.{statement}
-use Rattle.names.proofs.audit.valid_stored_name.Tie as tie
+use Rattle.names.proofs.link_names.valid_stored_name.Statement.{statement}
+use Rattle.names.proofs.link_names.valid_stored_name.Tie as tie
 
 units-taken : (n : List ℕ) → take (length (units n)) n ≡ units n
 units-taken n =

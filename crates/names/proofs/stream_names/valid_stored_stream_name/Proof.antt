@@ -1,4 +1,4 @@
--- `names::audit_streams::valid_stored_stream_name` meets its contract: the part before the first zero is the name's units.
+-- `names::stream_names::valid_stored_stream_name` meets its contract: the part before the first zero is the name's units.
 use Prim.Native.Nat.{ℕ}
 use mathlib.Core.Path.{_≡_, sym, ap, _∙_}
 use native.Mathlib.Omega.{arith}
@@ -8,8 +8,8 @@ use Rattle.records.specs.Sizes.{streamNameLimit}
 use Rattle.names.specs.Names.{validStreamName}
 use Rattle.names.proofs.StoredUnits.{units-taken, units-fit}
 use borrow.Author.Needs.{needs}
-use Rattle.names.proofs.audit_streams.valid_stored_stream_name.Statement.{statement}
-use Rattle.names.proofs.audit_streams.valid_stored_stream_name.Tie as tie
+use Rattle.names.proofs.stream_names.valid_stored_stream_name.Statement.{statement}
+use Rattle.names.proofs.stream_names.valid_stored_stream_name.Tie as tie
 
 name-length-requires : tie.Need-name-length-requires
 name-length-requires c κs = search needs

@@ -1,9 +1,9 @@
--- `names::audit_streams::is_unnamed` meets its contract: a name is empty exactly where its first place is zero.
+-- `names::stream_names::is_unnamed` meets its contract: a name is empty exactly where its first place is zero.
 use mathlib.Core.Path.{sym}
 use Rattle.names.proofs.StoredUnits.{units-empty}
 use borrow.Author.Needs.{needs}
-use Rattle.names.proofs.audit_streams.is_unnamed.Statement.{statement}
-use Rattle.names.proofs.audit_streams.is_unnamed.Tie as tie
+use Rattle.names.proofs.stream_names.is_unnamed.Statement.{statement}
+use Rattle.names.proofs.stream_names.is_unnamed.Tie as tie
 
 array-read-result : tie.Need-array-read-result
 array-read-result c = search needs
