@@ -1,17 +1,10 @@
 // The audit: whether the tables are consistent (the paper's soundness), decided table by table. The Volume is never
 // passed inside a loop, and names are compared only where parent or file agree.
-pub mod count_audit;
-pub mod file_audit;
-pub mod link_audit;
-pub mod open_audit;
-mod parent_audit;
-pub mod stream_audit;
-
-use crate::count_audit::counts_true;
-use crate::file_audit::files_consistent;
-use crate::link_audit::links_consistent;
-use crate::open_audit::opens_consistent;
-use crate::stream_audit::streams_consistent;
+use audit_counts::counts_true;
+use audit_files::files_consistent;
+use audit_links::links_consistent;
+use audit_opens::opens_consistent;
+use audit_streams::streams_consistent;
 use records::OpenTable;
 use records::Volume;
 ghost use mathlib.Core.Path.{_≡_};

@@ -1,5 +1,5 @@
 // Format: fresh tables with the root alone.
-use audit::file_audit::valid_masks;
+use audit_files::valid_masks;
 use records::Answer;
 use records::File;
 use records::FileNo;

@@ -1,0 +1,121 @@
+-- `audit_counts::counts_of_streams` meets its contract: at the loop's head the counts are those of the rows from
+-- i on.
+use Prim.Native.Nat.{_≤_}
+use mathlib.Core.Path.{_≡_, refl, sym, _∙_, subst}
+use mathlib.Core.Logic.{⊎-elim, inl, inr}
+use native.Mathlib.Omega.{arith}
+use lib.ListN.{length, length-set}
+use borrow.Author.Needs.{needs}
+use borrow.Author.Tests.{ltb-true, ltb-false}
+use Rattle.records.specs.Slots.{zeroCounts, zeroOpen}
+use Rattle.records.proofs.Lengths.{rows-length}
+use Rattle.audit_counts.proofs.CountsScan.{Counted, none-counted, all-counted, row-adds, row-adds-none}
+use Rattle.audit_counts.proofs.counts_of_streams.Statement.{statement}
+use Rattle.audit_counts.proofs.counts_of_streams.Tie as tie
+
+abbrev Inv-loop : tie.InvT-loop
+Inv-loop t counts₀ i₀ counts i =
+    (i ≤ 256) × (length counts ≡ 256) × Counted (t .rows) 256 counts i
+
+abbrev μ-loop : tie.MeasureT-loop
+μ-loop t counts₀ i₀ counts i = i
+
+zero-counts-requires : tie.Need-zero-counts-requires Inv-loop μ-loop
+zero-counts-requires c κs = search needs
+
+loop-holds : tie.Need-loop-holds Inv-loop μ-loop
+loop-holds c =
+    let size = rows-length (c .before .args .t1) _ (c .before .good .0) in
+    (search needs, refl, none-counted (c .before .args .t1 .rows) 256 256 (c .zero-counts .ensures) (omega arith))
+
+sub-i : tie.Need-sub-i Inv-loop μ-loop
+sub-i c = search needs
+
+mul-o : tie.Need-mul-o Inv-loop μ-loop
+mul-o c = search needs
+
+element-copy-out-o : tie.Need-element-copy-out-o Inv-loop μ-loop
+element-copy-out-o c = search needs
+
+cast-n : tie.Need-cast-n Inv-loop μ-loop
+cast-n c = search needs
+
+open-used-requires : tie.Need-open-used-requires Inv-loop μ-loop
+open-used-requires c κs = search needs
+
+mul-before : tie.Need-mul-before Inv-loop μ-loop
+mul-before c = search needs
+
+array-copy-out-before : tie.Need-array-copy-out-before Inv-loop μ-loop
+array-copy-out-before c = search needs
+
+with-open-requires : tie.Need-with-open-requires Inv-loop μ-loop
+with-open-requires c κs = search needs
+
+mul-counts : tie.Need-mul-counts Inv-loop μ-loop
+mul-counts c = search needs
+
+array-set-from-counts : tie.Need-array-set-from-counts Inv-loop μ-loop
+array-set-from-counts c = search needs
+
+loop-less : tie.Need-loop-less Inv-loop μ-loop
+loop-less c = search needs
+
+loop-again : tie.Need-loop-again Inv-loop μ-loop
+loop-again c =
+    let l = c .before .before .before .before .before .before .before .before in
+    let a = l .before .before in
+    let rows = a .args .t1 .rows in
+    let size = rows-length (a .args .t1) _ (a .good .0) in
+    let used = c .before .before .before in (
+      omega arith,
+      length-set (l .loop .counts) _ _ ∙ l .loop .inv .1,
+      row-adds rows 256 (l .loop .counts) (l .loop .i) zeroOpen (omega arith) (omega arith) (l .loop .inv .2) 65535 (omega arith)
+          (sym (used .before .open-used .ensures) ∙ used .if1 .taken) (l .loop .inv .1)
+          (ltb-true _ _ (c .before .before .if2 .taken)) zeroCounts (c .with-open .ensures),
+    )
+
+loop-less-2 : tie.Need-loop-less-2 Inv-loop μ-loop
+loop-less-2 c = search needs
+
+loop-again-2 : tie.Need-loop-again-2 Inv-loop μ-loop
+loop-again-2 c =
+    let l = c .before .before .before .before .before in
+    let a = l .before .before in
+    let rows = a .args .t1 .rows in
+    let size = rows-length (a .args .t1) _ (a .good .0) in (
+      omega arith,
+      l .loop .inv .1,
+      row-adds-none rows 256 (l .loop .counts) (l .loop .i) zeroOpen (omega arith) (omega arith) (l .loop .inv .2)
+          (⊎-elim (λ w. inr (ltb-false _ _ (w .1 .left))) (λ w. inl (sym (c .before .open-used .ensures) ∙ w .left)) (c .if1 .came)),
+    )
+
+returns : tie.Need-returns Inv-loop μ-loop
+returns c =
+    let l = c .before in
+    let z : l .loop .i ≡ 0 = omega arith in
+    all-counted (l .before .before .args .t1 .rows) 256 (l .loop .counts) (subst (Counted (l .before .before .args .t1 .rows) 256 (l .loop .counts)) z (l .loop .inv .2))
+
+pub counts-of-streams-spec : {M : Type 1} → statement M
+counts-of-streams-spec =
+    tie.close
+    (tie.spec
+    Inv-loop
+    μ-loop
+    zero-counts-requires
+    loop-holds
+    sub-i
+    mul-o
+    element-copy-out-o
+    cast-n
+    open-used-requires
+    mul-before
+    array-copy-out-before
+    with-open-requires
+    mul-counts
+    array-set-from-counts
+    loop-less
+    loop-again
+    loop-less-2
+    loop-again-2
+    returns)

@@ -1,0 +1,12 @@
+-- `audit_counts::same_counts` meets its contract.
+use mathlib.Core.Path.{refl}
+use Rattle.consistency.specs.Test.{sameCounts}
+use Rattle.audit_counts.proofs.same_counts.Statement.{statement}
+use Rattle.audit_counts.proofs.same_counts.Tie as tie
+
+returns : tie.Need-returns
+unfolding sameCounts
+returns c = refl
+
+pub same-counts-spec : {M : Type 1} → statement M
+same-counts-spec = tie.close (tie.spec returns)

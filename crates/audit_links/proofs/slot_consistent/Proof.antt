@@ -1,0 +1,28 @@
+-- `audit_links::slot_consistent` meets its contract: the code is the definition.
+use mathlib.Core.Path.{sym, _∙_}
+use borrow.Author.Needs.{needs}
+use Rattle.audit_links.proofs.slot_consistent.Statement.{statement}
+use Rattle.audit_links.proofs.slot_consistent.Tie as tie
+
+link-used-requires : tie.Need-link-used-requires
+link-used-requires c κs = search needs
+
+used-link-requires : tie.Need-used-link-requires
+used-link-requires c κs = search needs
+
+free-link-requires : tie.Need-free-link-requires
+free-link-requires c κs = search needs
+
+returns : tie.Need-returns
+returns c =
+    let u = c .before .before in
+    rw (← u .link-used .ensures, c .before .if1 .taken) (c .used-link .ensures)
+
+returns-2 : tie.Need-returns-2
+returns-2 c =
+    let u = c .before .before in
+    rw (← u .link-used .ensures, c .before .if1 .left) (c .free-link .ensures (sym (u .link-used .ensures) ∙ c .before .if1 .left))
+
+pub slot-consistent-spec : {M : Type 1} → statement M
+slot-consistent-spec =
+    tie.close (tie.spec link-used-requires used-link-requires free-link-requires returns returns-2)

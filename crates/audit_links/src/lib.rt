@@ -1,0 +1,136 @@
+// The audit of the links table: each link by itself, then all pairs, then the links and the parents of each file.
+use audit_parents::files_linked;
+use records::FileType;
+use records::Link;
+use records::Volume;
+use records::slots::is_directory;
+use records::slots::is_used;
+use records::slots::link_used;
+ghost use mathlib.Core.Path.{_≡_};
+ghost use mathlib.Core.Bool.{cond, not, false, _&&_, _||_};
+ghost use Rattle.lists.specs.Lists.{all, keep, pairs};
+ghost use Rattle.names.specs.Names.{validFileName, units, wellStored};
+ghost use Rattle.records.specs.Sizes.{fileNameLimit};
+ghost use Rattle.records.specs.Slots.{isUsed, isDirectory, linkUsed};
+ghost use Rattle.consistency.specs.Test.{freeLink, usedLink, linkNamesDiffer, linksTest};
+
+// A free slot is all zero. Its name has no first unit, so it is well stored exactly when it is all zero.
+fn free_link(l: Link) -> bool
+    ensures { λ r. ⌜ (linkUsed l ≡ false → r ≡ freeLink l) ⌝ }
+{
+    if l.parent.0 != 0 {
+        return false;
+    }
+    if l.file.0 != 0 {
+        return false;
+    }
+    let name = l.name;
+    names::well_stored(name)
+}
+
+// A used one has a valid name, of a used file in a directory, of which the types are given.
+fn used_link(l: Link, of: FileType, above: FileType) -> bool
+    ensures { λ r.
+        ⌜ r
+        ≡ (wellStored fileNameLimit (l .name) && validFileName fileNameLimit (units (l .name)) && isUsed of
+        && isDirectory above) ⌝ }
+{
+    let name = l.name;
+    if !names::well_stored(name) {
+        return false;
+    }
+    if !names::valid_stored_name(name) {
+        return false;
+    }
+    is_used(of) && is_directory(above)
+}
+
+fn slot_consistent(l: Link, of: FileType, above: FileType) -> bool
+    ensures { λ r.
+        ⌜ r
+        ≡ cond (linkUsed l)
+        (wellStored fileNameLimit (l .name) && validFileName fileNameLimit (units (l .name)) && isUsed of
+        && isDirectory above)
+        (freeLink l) ⌝ }
+{
+    if link_used(l) {
+        used_link(l, of, above)
+    } else {
+        free_link(l)
+    }
+}
+
+// Each slot passes. No slot that does, used or free, has a number past the files.
+fn slots_consistent(v: Volume) -> bool
+    ensures { λ r. ⌜ r ≡ all (λ l. cond (linkUsed l) (usedLink (v .files) l) (freeLink l)) (v .links) ⌝ }
+{
+    let mut i: usize = 0;
+    while i < 192 {
+        let l = v.links[i];
+        let n = l.file.0 as usize;
+        let p = l.parent.0 as usize;
+        if n >= 128 {
+            return false;
+        }
+        if p >= 128 {
+            return false;
+        }
+        let file = v.files[n];
+        let parent = v.files[p];
+        let of = file.file_type;
+        let above = parent.file_type;
+        if !slot_consistent(l, of, above) {
+            return false;
+        }
+        i += 1;
+    }
+    true
+}
+
+// Whether the second link is free, or the two differ in parent or name. Names are compared only in one directory.
+fn differ(l: Link, m: Link) -> bool
+    ensures { λ r. ⌜ r ≡ (not (linkUsed m) || linkNamesDiffer l m) ⌝ }
+{
+    if l.parent.0 != m.parent.0 {
+        return true;
+    }
+    if !link_used(m) {
+        return true;
+    }
+    let a = l.name;
+    let b = m.name;
+    !names::same_names(a, b)
+}
+
+fn names_differ(v: Volume) -> bool
+    ensures { λ r. ⌜ r ≡ pairs linkNamesDiffer (keep linkUsed (v .links)) ⌝ }
+{
+    let mut i: usize = 0;
+    while i < 192 {
+        let l = v.links[i];
+        if link_used(l) {
+            let mut j = i + 1;
+            while j < 192 {
+                let m = v.links[j];
+                if !differ(l, m) {
+                    return false;
+                }
+                j += 1;
+            }
+        }
+        i += 1;
+    }
+    true
+}
+
+pub fn links_consistent(v: Volume) -> bool
+    ensures { λ r. ⌜ r ≡ linksTest (v .files) (v .links) ⌝ }
+{
+    if !slots_consistent(v) {
+        return false;
+    }
+    if !names_differ(v) {
+        return false;
+    }
+    files_linked(v)
+}

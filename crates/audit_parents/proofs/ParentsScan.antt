@@ -1,0 +1,159 @@
+-- What the audit notes of each file in a pass over the links, from the last to the first, in a table by file numbers.
+use Prim.Native.Nat.{ℕ, zero, suc, _+_, _-_, _≤_, _<_}
+use mathlib.Core.Path.{_≡_, refl, sym, ap, _∙_}
+use mathlib.Core.Bool.{Bool, true, false, cond, _&&_}
+use mathlib.Core.List.{List, [], _∷_}
+use mathlib.Core.Logic.{_⊎_, ⊎-elim}
+use native.Mathlib.Omega.{arith}
+use lib.Dec.{eqb}
+use lib.ListN.{length, getD, set, drop}
+use borrow.Author.Tests.{eq-eqb, ne-eqb}
+use Rattle.lists.specs.Lists.{all, count, keep}
+use Rattle.lists.proofs.Tests.{and-left, and-right, cond-true}
+use Rattle.lists.proofs.Set.{set-cases}
+use Rattle.lists.proofs.Keep.{count-yes, count-no}
+use Rattle.lists.proofs.Passes.{drop-back}
+use Rattle.names.specs.Names.{validFileName, units, wellStored}
+use Rattle.records.specs.Sizes.{fileNameLimit}
+use Rattle.records.specs.Slots.{fileUsed, linkUsed, isDirectory, fileAt}
+use Rattle.records.specs.declared.FileNo.{FileNo}
+use Rattle.records.specs.declared.File.{File}
+use Rattle.records.specs.declared.Link.{Link}
+use Rattle.consistency.specs.Relations.{linkTo, parentOf, reaches}
+use Rattle.consistency.specs.Test.{freeLink, usedLink, linksOfFile}
+use Rattle.consistency.proofs.Slots.{same-file}
+use Rattle.consistency.proofs.Numbered.{file-in, directory-file}
+use Rattle.consistency.proofs.Parents.{link-to-used, links-kept, reaches-kept}
+
+-- a slot's test
+abbrev pub slotTest : List File → Link → Bool
+slotTest fs l = cond (linkUsed l) (usedLink fs l) (freeLink l)
+
+-- a link names the file, or not
+pub names-it : (f : FileNo) (l : Link) → linkUsed l ≡ true → f .0 ≡ l .file .0 → linkTo f l ≡ true
+unfolding linkTo
+names-it f l u e = rw u (eq-eqb (l .file .0) (f .0) (sym e))
+
+pub names-other : (f : FileNo) (l : Link) → (f .0 ≡ l .file .0 → ⊥) → linkTo f l ≡ false
+unfolding linkTo
+names-other f l n = rw (ne-eqb (l .file .0) (f .0) (λ e. n (sym e))) (go (linkUsed l))
+  where
+    go : (b : Bool) → (b && false) ≡ false
+    go true = refl
+    go false = refl
+
+pub free-names : (f : FileNo) (l : Link) → linkUsed l ≡ false → linkTo f l ≡ false
+unfolding linkTo
+free-names f l u = rw u
+
+-- a table has, for each file, what the links say of it
+abbrev pub Noted : (FileNo → List Link → ℕ) → List ℕ → List Link → Type 0
+Noted what xs ls = (f : FileNo) → f .0 < 128 → getD xs (f .0) 0 ≡ what f ls
+
+-- what a link says of one file only: of a file that it does not name it says nothing
+module _ (what : FileNo → List Link → ℕ)
+    (other : (f : FileNo) (l : Link) (ls : List Link) → linkTo f l ≡ false → what f (l ∷ ls) ≡ what f ls)
+    (xs : List ℕ) (ls : List Link) (i : ℕ) (d : Link) (positive : 0 < i) (inside : i ≤ length ls) where
+  -- one link more, which names no file of the table
+  pub noted-skip : Noted what xs (drop i ls)
+      → (linkUsed (getD ls (i - 1) d) ≡ false) ⊎ (128 ≤ getD ls (i - 1) d .file .0) → Noted what xs (drop (i - 1) ls)
+  noted-skip n s f h =
+      n f h
+      ∙ sym (other f (getD ls (i - 1) d) (drop i ls)
+      (⊎-elim (λ u. free-names f (getD ls (i - 1) d) u)
+      (λ b. names-other f (getD ls (i - 1) d) (λ e. let z : ⊥ = omega arith in z)) s))
+      ∙ ap (what f) (sym (drop-back ls i d positive inside))
+
+  -- one link more, of which y is noted at its file
+  pub noted-set : Noted what xs (drop i ls) → (y : ℕ) → length xs ≡ 128 → getD ls (i - 1) d .file .0 < 128
+      → ((f : FileNo) → f .0 ≡ getD ls (i - 1) d .file .0 → y ≡ what f (getD ls (i - 1) d ∷ drop i ls))
+      → Noted what (set xs (getD ls (i - 1) d .file .0) y) (drop (i - 1) ls)
+  noted-set n y k b w f h =
+      ⊎-elim (λ e. e .1 ∙ w f (e .0))
+      (λ e. e .1 ∙ n f h ∙ sym (other f (getD ls (i - 1) d) (drop i ls) (names-other f (getD ls (i - 1) d) (e .0))))
+      (set-cases xs (getD ls (i - 1) d .file .0) (f .0) y 0 (omega arith))
+      ∙ ap (what f) (sym (drop-back ls i d positive inside))
+
+-- how many links a file has, and its parent, as such notes
+pub count-other : (f : FileNo) (l : Link) (ls : List Link) → linkTo f l ≡ false → count (linkTo f) (l ∷ ls) ≡ count (linkTo f) ls
+count-other f l ls e = count-no (linkTo f) l ls e
+
+pub parent-other : (f : FileNo) (l : Link) (ls : List Link) → linkTo f l ≡ false → parentOf (l ∷ ls) f .0 ≡ parentOf ls f .0
+unfolding parentOf
+parent-other f l ls e = rw (e, parentOf)
+
+pub parent-here : (f : FileNo) (l : Link) (ls : List Link) → linkTo f l ≡ true → parentOf (l ∷ ls) f .0 ≡ l .parent .0
+unfolding parentOf
+parent-here f l ls e = rw (e, parentOf)
+
+-- one link more: the number that stands at its file goes up by one
+pub count-more : (xs : List ℕ) (l : Link) (ls : List Link) → linkUsed l ≡ true → l .file .0 < 128
+    → Noted (λ f ms. count (linkTo f) ms) xs ls
+    → (f : FileNo) → f .0 ≡ l .file .0 → getD xs (l .file .0) 0 + 1 ≡ count (linkTo f) (l ∷ ls)
+count-more xs l ls u b n f e =
+    omega (arith, ap (λ (k : ℕ). getD xs k 0) e, n f (omega arith), count-yes (linkTo f) l ls (names-it f l u e))
+
+-- where each link passes its test, a parent is no further than the files
+module _ (fs : List File) where
+  parent-there : (l : Link) → linkUsed l ≡ true → slotTest fs l ≡ true → l .parent .0 < length fs
+  unfolding usedLink
+  parent-there l u h =
+      file-in fs (l .parent)
+      (directory-file fs (l .parent)
+      (and-right
+      (wellStored fileNameLimit (l .name)
+      && validFileName fileNameLimit (units (l .name))
+      && fileUsed (fileAt fs (l .file)))
+      (isDirectory (fileAt fs (l .parent) .«file_type»)) (sym (cond-true (usedLink fs l) (freeLink l) u) ∙ h)))
+
+  pub parent-in : (ls : List Link) → all (slotTest fs) ls ≡ true → (f : FileNo) → f .0 < length fs → parentOf ls f .0 < length fs
+  unfolding all parentOf
+  parent-in [] h f b = b
+  parent-in (l ∷ ls) h f b =
+      go (linkTo f l) refl (parent-in ls (and-right (slotTest fs l) (all (slotTest fs) ls) h) f b)
+    where
+      go : (t : Bool) → linkTo f l ≡ t → parentOf ls f .0 < length fs → parentOf (l ∷ ls) f .0 < length fs
+      go true e k =
+          let z = parent-there l (link-to-used f l e) (and-left (slotTest fs l) (all (slotTest fs) ls) h) in
+          omega (arith, parent-here f l ls e)
+      go false e k = omega (arith, parent-other f l ls e)
+
+-- a file's test, over all the links: the free ones do not matter
+pub unused-passes : (ls : List Link) (n : ℕ) (f : File) → fileUsed f ≡ false → linksOfFile ls n f ≡ true
+unfolding linksOfFile
+unused-passes ls n f u = rw u
+
+module _ (ls : List Link) (n : ℕ) (f : File) (used : fileUsed f ≡ true) where
+  -- the file's number, and how many links it should have
+  abbrev number : FileNo
+  number = record { 0 = n }
+
+  abbrev wanted : ℕ
+  wanted = cond (eqb n 0) 0 1
+
+  linked-is : linksOfFile (keep linkUsed ls) n f ≡ (eqb (count (linkTo number) ls) wanted && reaches ls 128 number)
+  unfolding linksOfFile
+  linked-is = rw (used, links-kept number ls, reaches-kept ls 128 number)
+
+  pub wrong-count : (count (linkTo number) ls ≡ wanted → ⊥) → linksOfFile (keep linkUsed ls) n f ≡ false
+  wrong-count e = linked-is ∙ rw (ne-eqb (count (linkTo number) ls) wanted e)
+
+  pub right-count : count (linkTo number) ls ≡ wanted → linksOfFile (keep linkUsed ls) n f ≡ reaches ls 128 number
+  right-count e = linked-is ∙ rw (eq-eqb (count (linkTo number) ls) wanted e)
+
+-- the root is here
+pub up-here : (ls : List Link) (n : ℕ) (f : FileNo) → f .0 ≡ 0 → reaches ls n f ≡ true
+unfolding reaches
+up-here ls zero f e = eq-eqb (f .0) 0 e
+up-here ls (suc n) f e = rw (eq-eqb (f .0) 0 e, reaches)
+
+-- or the search goes on from the parent
+pub up-next : (ls : List Link) (n : ℕ) (f g : FileNo) → 0 < n → (f .0 ≡ 0 → ⊥) → g .0 ≡ parentOf ls f .0
+    → reaches ls n f ≡ reaches ls (n - 1) g
+unfolding reaches
+up-next ls zero f g h z e = absurd (let w : ⊥ = omega arith in w)
+up-next ls (suc n) f g h z e =
+    step ∙ ap (λ (k : ℕ). reaches ls k g) (let w : n ≡ suc n - 1 = omega arith in w)
+  where
+    step : reaches ls (suc n) f ≡ reaches ls n g
+    step = rw (ne-eqb (f .0) 0 z, reaches) (ap (reaches ls n) (same-file (parentOf ls f) g (sym e)))

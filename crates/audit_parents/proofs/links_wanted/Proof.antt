@@ -1,0 +1,13 @@
+-- `audit_parents::links_wanted` meets its contract.
+use borrow.Author.Tests.{eq-eqb, ne-eqb}
+use Rattle.audit_parents.proofs.links_wanted.Statement.{statement}
+use Rattle.audit_parents.proofs.links_wanted.Tie as tie
+
+returns : tie.Need-returns
+returns c = rw (eq-eqb (c .before .args .n) 0 (c .if1 .taken))
+
+returns-2 : tie.Need-returns-2
+returns-2 c = rw (ne-eqb (c .before .args .n) 0 (c .if1 .left))
+
+pub links-wanted-spec : {M : Type 1} → statement M
+links-wanted-spec = tie.close (tie.spec returns returns-2)
