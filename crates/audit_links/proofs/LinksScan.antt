@@ -9,10 +9,12 @@ use lib.ListN.{length, getD, replicate, List·getD-eq-default}
 use borrow.Author.Tests.{not-false, eqb-true, eq-eqb, ne-eqb}
 use Rattle.lists.specs.Lists.{same, padded}
 use Rattle.lists.proofs.Default.{getD-default}
-use Rattle.names.specs.Names.{units, wellStored, validFileName}
-use Rattle.names.proofs.NameUnits.{units-end}
+use Rattle.names.specs.Names.{validFileName}
+use Rattle.stored_names.specs.StoredNames.{units, wellStored}
+use Rattle.stored_names.proofs.NameUnits.{units-end}
 use Rattle.records.specs.Sizes.{fileNameLimit}
-use Rattle.records.specs.Slots.{isUsed, isDirectory, fileUsed, linkUsed, fileAt, zeroFile}
+use Rattle.records.specs.Slots.{isUsed, isDirectory, fileUsed, linkUsed, zeroFile}
+use Rattle.tables.specs.Tables.{fileAt}
 use Rattle.records.specs.declared.FileNo.{FileNo}
 use Rattle.records.specs.declared.File.{File}
 use Rattle.records.specs.declared.Link.{Link}

@@ -9,7 +9,8 @@ use records::slots::link_used;
 ghost use mathlib.Core.Path.{_≡_};
 ghost use mathlib.Core.Bool.{cond, not, false, _&&_, _||_};
 ghost use Rattle.lists.specs.Lists.{all, keep, pairs};
-ghost use Rattle.names.specs.Names.{validFileName, units, wellStored};
+ghost use Rattle.names.specs.Names.{validFileName};
+ghost use Rattle.stored_names.specs.StoredNames.{units, wellStored};
 ghost use Rattle.records.specs.Sizes.{fileNameLimit};
 ghost use Rattle.records.specs.Slots.{isUsed, isDirectory, linkUsed};
 ghost use Rattle.consistency.specs.Test.{freeLink, usedLink, linkNamesDiffer, linksTest};
@@ -25,7 +26,7 @@ fn free_link(l: Link) -> bool
         return false;
     }
     let name = l.name;
-    names::well_stored(name)
+    stored_names::well_stored(name)
 }
 
 // A used one has a valid name, of a used file in a directory, of which the types are given.
@@ -36,10 +37,10 @@ fn used_link(l: Link, of: FileType, above: FileType) -> bool
         && isDirectory above) ⌝ }
 {
     let name = l.name;
-    if !names::well_stored(name) {
+    if !stored_names::well_stored(name) {
         return false;
     }
-    if !names::valid_stored_name(name) {
+    if !stored_names::valid_stored_name(name) {
         return false;
     }
     is_used(of) && is_directory(above)
@@ -99,7 +100,7 @@ fn differ(l: Link, m: Link) -> bool
     }
     let a = l.name;
     let b = m.name;
-    !names::same_names(a, b)
+    !stored_names::same_names(a, b)
 }
 
 fn names_differ(v: Volume) -> bool

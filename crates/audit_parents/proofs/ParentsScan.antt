@@ -13,9 +13,11 @@ use Rattle.lists.proofs.Tests.{and-left, and-right, cond-true}
 use Rattle.lists.proofs.Set.{set-cases}
 use Rattle.lists.proofs.Keep.{count-yes, count-no}
 use Rattle.lists.proofs.Passes.{drop-back}
-use Rattle.names.specs.Names.{validFileName, units, wellStored}
+use Rattle.names.specs.Names.{validFileName}
+use Rattle.stored_names.specs.StoredNames.{units, wellStored}
 use Rattle.records.specs.Sizes.{fileNameLimit}
-use Rattle.records.specs.Slots.{fileUsed, linkUsed, isDirectory, fileAt}
+use Rattle.records.specs.Slots.{fileUsed, linkUsed, isDirectory}
+use Rattle.tables.specs.Tables.{fileAt}
 use Rattle.records.specs.declared.FileNo.{FileNo}
 use Rattle.records.specs.declared.File.{File}
 use Rattle.records.specs.declared.Link.{Link}

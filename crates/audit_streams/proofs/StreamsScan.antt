@@ -14,9 +14,11 @@ use Rattle.lists.proofs.Tests.{and-left}
 use Rattle.lists.proofs.Default.{getD-default}
 use Rattle.lists.proofs.Keep.{count-keep, count-same}
 use Rattle.lists.proofs.Sweeps.{all-map, pairs-map, keep-map, count-map, numbered-same, keyed, ones, KeyedCounts, keyed-start, keyed-done, keyed-fits, keyed-adds, keyed-skips}
-use Rattle.names.specs.Names.{validStreamName, units, wellStored}
+use Rattle.names.specs.Names.{validStreamName}
+use Rattle.stored_names.specs.StoredNames.{units, wellStored}
 use Rattle.records.specs.Sizes.{streamSlots, streamNameLimit}
-use Rattle.records.specs.Slots.{isUsed, isDirectory, fileUsed, fileAt, streamUsed, zeroFile}
+use Rattle.records.specs.Slots.{isUsed, isDirectory, fileUsed, streamUsed, zeroFile}
+use Rattle.tables.specs.Tables.{fileAt}
 use Rattle.records.specs.Namespace.{BareStream, bareUsed, bare}
 use Rattle.records.specs.declared.FileNo.{FileNo}
 use Rattle.records.specs.declared.FileType.{FileType}

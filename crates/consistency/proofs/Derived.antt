@@ -13,7 +13,8 @@ use Rattle.lists.specs.Lists.{count, keep}
 use Rattle.lists.proofs.Tests.{tested, not-both, and-left, and-right}
 use Rattle.lists.proofs.Keep.{keep-keep, keep-no}
 use Rattle.records.specs.Sizes.{fileSlots, linkSlots, streamSlots, openSlots}
-use Rattle.records.specs.Slots.{zeroStream, zeroCounts, zeroOpen, fileUsed, linkUsed, streamUsed, openUsed, fileAt, linkAt, streamAt}
+use Rattle.records.specs.Slots.{zeroStream, zeroCounts, zeroOpen, fileUsed, linkUsed, streamUsed, openUsed}
+use Rattle.tables.specs.Tables.{fileAt, linkAt, streamAt}
 use Rattle.records.specs.Namespace.{BareStream, zeroBare, bare, bareUsed, bareAt, namespace}
 use Rattle.records.specs.declared.FileNo.{FileNo}
 use Rattle.records.specs.declared.LinkNo.{LinkNo}

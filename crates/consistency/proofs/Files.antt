@@ -7,7 +7,8 @@ use Rattle.bits.specs.Bits.{within, has}
 use Rattle.lists.specs.Lists.{same}
 use Rattle.lists.proofs.Tests.{and-iff, eqb-iff, same-iff}
 use Rattle.records.specs.Constants.{directory}
-use Rattle.records.specs.Slots.{zeroFile, isUsed, isDirectory, fileUsed, fileAt}
+use Rattle.records.specs.Slots.{zeroFile, isUsed, isDirectory, fileUsed}
+use Rattle.tables.specs.Tables.{fileAt}
 use Rattle.records.specs.declared.FileNo.{FileNo}
 use Rattle.records.specs.declared.File.{File}
 use Rattle.consistency.specs.Relations.{validMasks}

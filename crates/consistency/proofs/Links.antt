@@ -12,12 +12,14 @@ use Rattle.lists.specs.Lists.{all, allFrom, count, keep, pairs, same}
 use Rattle.lists.proofs.Tests.{tested, and-iff, eqb-iff, same-iff, cond-true, cond-false}
 use Rattle.lists.proofs.Pairs.{pairs-keep-at, pairs-keep-of}
 use Rattle.records.specs.Sizes.{fileSlots, fileNameLimit}
-use Rattle.records.specs.Slots.{root, zeroLink, isDirectory, fileUsed, linkUsed, fileAt, linkAt}
+use Rattle.records.specs.Slots.{root, zeroLink, isDirectory, fileUsed, linkUsed}
+use Rattle.tables.specs.Tables.{fileAt, linkAt}
 use Rattle.records.specs.declared.FileNo.{FileNo}
 use Rattle.records.specs.declared.LinkNo.{LinkNo}
 use Rattle.records.specs.declared.File.{File}
 use Rattle.records.specs.declared.Link.{Link}
-use Rattle.names.specs.Names.{validFileName, units, wellStored}
+use Rattle.names.specs.Names.{validFileName}
+use Rattle.stored_names.specs.StoredNames.{units, wellStored}
 use Rattle.consistency.specs.Relations.{linkTo, climb, reaches}
 use Rattle.consistency.specs.Test.{freeLink, usedLink, linkNamesDiffer, linksOfFile, linksTest}
 use Rattle.consistency.specs.Consistent.{FilesConsistent, LinksConsistent}

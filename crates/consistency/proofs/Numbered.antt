@@ -11,7 +11,8 @@ use borrow.Author.Tests.{eqb-true, eq-eqb, not-true}
 use Rattle.lists.specs.Lists.{allFrom, same}
 use Rattle.lists.proofs.All.{all-from-at, all-from-of}
 use Rattle.lists.proofs.Tests.{tested, not-both, same-is, same-self}
-use Rattle.records.specs.Slots.{isUsed, isDirectory, zeroFile, fileUsed, fileAt}
+use Rattle.records.specs.Slots.{isUsed, isDirectory, zeroFile, fileUsed}
+use Rattle.tables.specs.Tables.{fileAt}
 use Rattle.records.specs.declared.FileNo.{FileNo}
 use Rattle.records.specs.declared.File.{File}
 use Rattle.consistency.proofs.Slots.{same-file, used-below, directory-used}

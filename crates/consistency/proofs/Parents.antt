@@ -14,7 +14,8 @@ use Rattle.lists.specs.Lists.{count, keep}
 use Rattle.lists.proofs.Tests.{and-left, not-both, or-cases, or-left, or-right}
 use Rattle.lists.proofs.Keep.{keep-yes, keep-no, count-keep, count-yes, count-no}
 use Rattle.lists.proofs.Pigeonhole.{pigeonhole, least}
-use Rattle.records.specs.Slots.{root, zeroLink, fileUsed, linkUsed, fileAt}
+use Rattle.records.specs.Slots.{root, zeroLink, fileUsed, linkUsed}
+use Rattle.tables.specs.Tables.{fileAt}
 use Rattle.records.specs.declared.FileNo.{FileNo}
 use Rattle.records.specs.declared.File.{File}
 use Rattle.records.specs.declared.Link.{Link}

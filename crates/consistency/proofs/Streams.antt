@@ -11,12 +11,14 @@ use Rattle.lists.proofs.Tests.{and-left, and-iff, eqb-iff, same-iff}
 use Rattle.lists.proofs.Keep.{count-keep}
 use Rattle.lists.proofs.Pairs.{pairs-keep-at, pairs-keep-of}
 use Rattle.records.specs.Sizes.{streamNameLimit}
-use Rattle.records.specs.Slots.{root, isUsed, isDirectory, fileUsed, fileAt}
+use Rattle.records.specs.Slots.{root, isUsed, isDirectory, fileUsed}
+use Rattle.tables.specs.Tables.{fileAt}
 use Rattle.records.specs.Namespace.{BareStream, zeroBare, bareUsed, bareAt}
 use Rattle.records.specs.declared.FileNo.{FileNo}
 use Rattle.records.specs.declared.StreamNo.{StreamNo}
 use Rattle.records.specs.declared.File.{File}
-use Rattle.names.specs.Names.{validStreamName, units, wellStored}
+use Rattle.names.specs.Names.{validStreamName}
+use Rattle.stored_names.specs.StoredNames.{units, wellStored}
 use Rattle.consistency.specs.Relations.{streamOf, unnamedOf}
 use Rattle.consistency.specs.Test.{freeStream, usedStream, streamNamesDiffer, streamsOfFile, streamsTest}
 use Rattle.consistency.specs.Consistent.{StreamsConsistent}

@@ -10,7 +10,8 @@ use Rattle.bits.specs.Bits.{within, has}
 use Rattle.lists.specs.Lists.{count}
 use Rattle.records.specs.Sizes.{fileSlots, linkSlots, streamSlots, openSlots, fileNameLimit, streamNameLimit}
 use Rattle.records.specs.Constants.{allAccess, directory}
-use Rattle.records.specs.Slots.{root, zeroFile, zeroLink, zeroOpen, isData, isDirectory, fileUsed, linkUsed, openUsed, fileAt, linkAt, streamAt}
+use Rattle.records.specs.Slots.{root, zeroFile, zeroLink, zeroOpen, isData, isDirectory, fileUsed, linkUsed, openUsed}
+use Rattle.tables.specs.Tables.{fileAt, linkAt, streamAt}
 use Rattle.records.specs.Namespace.{Namespace, BareStream, zeroBare, bareUsed, bareAt, namespace}
 use Rattle.records.specs.declared.FileNo.{FileNo}
 use Rattle.records.specs.declared.LinkNo.{LinkNo}
@@ -21,7 +22,8 @@ use Rattle.records.specs.declared.Stream.{Stream}
 use Rattle.records.specs.declared.Open.{Open}
 use Rattle.records.specs.declared.OpenTable.{OpenTable}
 use Rattle.records.specs.declared.Volume.{Volume}
-use Rattle.names.specs.Names.{validFileName, validStreamName, units, wellStored}
+use Rattle.names.specs.Names.{validFileName, validStreamName}
+use Rattle.stored_names.specs.StoredNames.{units, wellStored}
 use Rattle.sharing.specs.Sharing.{conflicting, countsOf}
 use Rattle.consistency.specs.Relations.{validMasks, linkTo, streamOf, unnamedOf, live, climb}
 

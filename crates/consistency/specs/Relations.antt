@@ -13,7 +13,7 @@ use Rattle.records.specs.Namespace.{BareStream, bareUsed}
 use Rattle.records.specs.declared.FileNo.{FileNo}
 use Rattle.records.specs.declared.Link.{Link}
 use Rattle.records.specs.declared.Open.{Open}
-use Rattle.names.specs.Names.{units}
+use Rattle.stored_names.specs.StoredNames.{units}
 
 -- a mask for each account, each within 0x1F01FF
 unfoldable pub validMasks : List ℕ → Bool

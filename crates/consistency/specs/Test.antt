@@ -8,7 +8,8 @@ use Rattle.bits.specs.Bits.{within, has}
 use Rattle.lists.specs.Lists.{all, allFrom, count, keep, pairs, same}
 use Rattle.records.specs.Sizes.{fileSlots, linkSlots, streamSlots, openSlots, fileNameLimit, streamNameLimit, accounts}
 use Rattle.records.specs.Constants.{allAccess, directory}
-use Rattle.records.specs.Slots.{root, isData, isDirectory, fileUsed, linkUsed, openUsed, fileAt}
+use Rattle.records.specs.Slots.{root, isData, isDirectory, fileUsed, linkUsed, openUsed}
+use Rattle.tables.specs.Tables.{fileAt}
 use Rattle.records.specs.Namespace.{BareStream, bareUsed, bareAt, namespace}
 use Rattle.records.specs.declared.FileType.{FileType}
 use Rattle.records.specs.declared.FileNo.{FileNo}
@@ -20,7 +21,8 @@ use Rattle.records.specs.declared.Stream.{Stream}
 use Rattle.records.specs.declared.Open.{Open}
 use Rattle.records.specs.declared.OpenTable.{OpenTable}
 use Rattle.records.specs.declared.Volume.{Volume}
-use Rattle.names.specs.Names.{validFileName, validStreamName, units, wellStored}
+use Rattle.names.specs.Names.{validFileName, validStreamName}
+use Rattle.stored_names.specs.StoredNames.{units, wellStored}
 use Rattle.sharing.specs.Sharing.{conflicting, countsOf}
 use Rattle.consistency.specs.Relations.{validMasks, linkTo, streamOf, unnamedOf, live, reaches}
 

@@ -6,9 +6,11 @@ use mathlib.Core.List.{List}
 use Rattle.bits.specs.Bits.{within, has}
 use Rattle.lists.specs.Lists.{all, allFrom, count, keep, pairs, isEmpty, same, padded}
 use Rattle.lists.proofs.Tests.{and-both}
-use Rattle.records.specs.Slots.{isUsed, isDirectory, fileUsed, linkUsed, openUsed, fileAt}
+use Rattle.records.specs.Slots.{isUsed, isDirectory, fileUsed, linkUsed, openUsed}
+use Rattle.tables.specs.Tables.{fileAt}
 use Rattle.records.specs.Namespace.{bare, bareUsed, bareAt, namespace}
-use Rattle.names.specs.Names.{units, wellStored, validUnit, validFileName, validStreamName}
+use Rattle.names.specs.Names.{validUnit, validFileName, validStreamName}
+use Rattle.stored_names.specs.StoredNames.{units, wellStored}
 use Rattle.sharing.specs.Sharing.{onStream, countsOf, countsOfAll}
 use Rattle.consistency.specs.Relations.{validMasks, linkTo, streamOf, unnamedOf, live, parentOf, reaches}
 use Rattle.consistency.specs.Test.{freeFile, sameBool, usedFile, filesTest, freeLink, usedLink, linkNamesDiffer, linksOfFile, linksTest, freeStream, usedStream, streamNamesDiffer, streamsOfFile, streamsTest, freeOpen, usedOpen, handlesDiffer, opensAgree, opensTest, sameCounts, countsTest, consistent}

@@ -5,7 +5,8 @@ use mathlib.Core.List.{List, [], _∷_}
 use mathlib.Core.Option.{Option, none, some}
 use lib.Dec.{eqb}
 use Rattle.lists.specs.Lists.{first}
-use Rattle.records.specs.Slots.{root, isDirectory, fileAt, linkAt}
+use Rattle.records.specs.Slots.{root, isDirectory}
+use Rattle.tables.specs.Tables.{fileAt, linkAt}
 use Rattle.records.specs.Namespace.{Namespace, BareStream, bareUsed}
 use Rattle.records.specs.Checked.{Checked, refused, passed, _>>=_}
 use Rattle.records.specs.declared.Status.the-variants.{ObjectPathNotFound}
@@ -13,8 +14,8 @@ use Rattle.records.specs.declared.FileNo.{FileNo}
 use Rattle.records.specs.declared.LinkNo.{LinkNo}
 use Rattle.records.specs.declared.StreamNo.{StreamNo}
 use Rattle.records.specs.declared.Link.{Link}
-use Rattle.names.specs.Units.{equalUnits}
-use Rattle.names.specs.Names.{units}
+use Rattle.units.specs.Units.{equalUnits}
+use Rattle.stored_names.specs.StoredNames.{units}
 use Rattle.paths.specs.Paths.{Path, Leaf}
 
 -- a link of the directory whose name matches. A path's names are never empty, so no free slot matches one

@@ -1,7 +1,6 @@
 // A directory's link and a file's stream by name. Names are compared only where the parent, or the file, agrees.
 use crate::FoundLink;
 use crate::FoundStream;
-use names::name_equals;
 use records::FileNo;
 use records::Link;
 use records::LinkNo;
@@ -11,6 +10,7 @@ use records::Volume;
 use records::sizes::LINK_SLOTS;
 use records::sizes::STREAM_SLOTS;
 use records::slots::stream_used;
+use stored_names::name_equals;
 ghost use mathlib.Core.Path.{_≡_};
 ghost use mathlib.Core.Bool.{false};
 ghost use mathlib.Core.List.{[]};

@@ -1,5 +1,1 @@
-pub mod Padded
-pub mod Compare
-pub mod NameUnits
 pub mod ValidNames
-pub mod StoredUnits

@@ -1,18 +1,76 @@
-// Names: how units compare, which names are valid, and how a stored name is read.
-mod link_names;
-mod stored;
-mod stream_names;
-mod units;
-mod valid;
+// Which names are valid (step 4).
+ghost use mathlib.Core.Path.{_≡_};
+ghost use mathlib.Core.Bool.{_||_};
+ghost use mathlib.Core.List.{_∷_, []};
+ghost use Rattle.lists.specs.Lists.{same};
+ghost use Rattle.records.specs.Sizes.{fileNameLimit, streamNameLimit};
+ghost use Rattle.units.specs.Units.{dot};
+ghost use Rattle.names.specs.Names.{validUnit, validFileName, validStreamName};
 
-pub use link_names::valid_stored_name;
-pub use stored::name_equals;
-pub use stored::name_length;
-pub use stored::same_names;
-pub use stored::well_stored;
-pub use stream_names::is_unnamed;
-pub use stream_names::valid_stored_stream_name;
-pub use stream_names::zero_name;
-pub use units::equal_units;
-pub use valid::valid_file_name;
-pub use valid::valid_stream_name;
+// Units of a file's name, and of a stream's.
+const FILE_NAME_LIMIT: usize = 32;
+
+const STREAM_NAME_LIMIT: usize = 32;
+
+const DOT: u16 = 0x2E;
+
+// Whether a unit may stand in a name: no control sign, none of `" * / < > ? |`, neither colon nor backslash.
+fn valid_unit(unit: u16) -> bool
+    ensures { λ r. ⌜ r ≡ validUnit unit ⌝ }
+{
+    if unit < 0x20 {
+        return false;
+    }
+    match unit {
+        0x22 | 0x2A | 0x2F | 0x3A | 0x3C | 0x3E | 0x3F | 0x5C | 0x7C => false,
+        _ => true,
+    }
+}
+
+// Whether a name is no longer than the limit and has valid units only.
+fn valid_units(name: &[u16], limit: usize) -> bool
+    ensures { λ r. ⌜ r ≡ validStreamName limit (now (name .entry)) ⌝ }
+{
+    if limit < name.len() {
+        return false;
+    }
+    let mut i = 0;
+    while i < name.len() {
+        if !valid_unit(name[i]) {
+            return false;
+        }
+        i += 1;
+    }
+    true
+}
+
+// Whether a name is `.` or `..`.
+fn is_dots(name: &[u16]) -> bool
+    ensures { λ r. ⌜ r ≡ (same (now (name .entry)) (dot ∷ []) || same (now (name .entry)) (dot ∷ dot ∷ [])) ⌝ }
+{
+    if name.len() == 1 {
+        return name[0] == DOT;
+    }
+    if name.len() == 2 {
+        return name[0] == DOT && name[1] == DOT;
+    }
+    false
+}
+
+pub fn valid_file_name(name: &[u16]) -> bool
+    ensures { λ r. ⌜ r ≡ validFileName fileNameLimit (now (name .entry)) ⌝ }
+{
+    if name.len() == 0 {
+        return false;
+    }
+    if is_dots(name) {
+        return false;
+    }
+    valid_units(name, FILE_NAME_LIMIT)
+}
+
+pub fn valid_stream_name(name: &[u16]) -> bool
+    ensures { λ r. ⌜ r ≡ validStreamName streamNameLimit (now (name .entry)) ⌝ }
+{
+    valid_units(name, STREAM_NAME_LIMIT)
+}

@@ -9,7 +9,7 @@ use borrow.Author.Tests.{le-leb, lt-leb}
 use Rattle.records.specs.Sizes.{fileNameLimit, streamNameLimit, pathLimit}
 use Rattle.records.specs.Checked.{Checked, refused, passed, _>>=_, _>>_, refuseIf}
 use Rattle.records.specs.declared.Status.the-variants.{ObjectNameInvalid}
-use Rattle.names.specs.Units.{backslash, colon}
+use Rattle.units.specs.Units.{backslash, colon}
 use Rattle.names.specs.Names.{validFileName, validStreamName}
 use Rattle.paths.specs.Paths.{Leaf, Path, split, leafOf, components, endsIn, validLeaf, checkedLeaf, parseComponents, parsePath}
 use Rattle.paths.specs.Positions.{named, checked}

@@ -13,7 +13,7 @@ use Rattle.records.specs.Sizes.{fileNameLimit, streamNameLimit, pathLimit}
 use Rattle.records.specs.Checked.{Checked, refused, passed, _>>=_, _>>_, refuseIf}
 use Rattle.records.specs.declared.Status.the-variants.{ObjectNameInvalid}
 use Rattle.records.proofs.Checked.{refused≢passed, passed-same, bind-passed, test-passed}
-use Rattle.names.specs.Units.{backslash, colon, dataType, equalUnits}
+use Rattle.units.specs.Units.{backslash, colon, dataType, equalUnits}
 use Rattle.names.specs.Names.{validFileName, validStreamName}
 use Rattle.paths.specs.Paths.{Leaf, Path, split, components, endsIn, leafOf, validLeaf, checkedLeaf, parseComponents, parsePath}
 

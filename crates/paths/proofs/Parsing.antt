@@ -11,7 +11,7 @@ use lib.Seq.{slice, slice-empty, drop-cons, take-all}
 use borrow.Author.Tests.{eqb-true, ltb-true, ltb-false}
 use Rattle.lists.specs.Lists.{all, isEmpty}
 use Rattle.lists.proofs.Tests.{same-is}
-use Rattle.names.specs.Units.{colon, dataType, upper, folded, equalUnits}
+use Rattle.units.specs.Units.{colon, dataType, upper, folded, equalUnits}
 use Rattle.paths.specs.Paths.{Leaf, split, leafOf, endsIn}
 use Rattle.paths.specs.Positions.{leading, noSign, placeOf}
 use Rattle.paths.proofs.Leading.{leading-le, slice-take, slice-drop}

@@ -6,7 +6,7 @@ use native.Mathlib.Nat.{zero-add, add-zero}
 use native.Mathlib.Omega.{arith}
 use lib.ListN.{length, take, drop, replicate, length-drop}
 use lib.Seq.{slice, drop-drop, take-add}
-use Rattle.names.specs.Units.{backslash}
+use Rattle.units.specs.Units.{backslash}
 use Rattle.paths.specs.Paths.{components}
 use Rattle.paths.specs.Positions.{leading, isSign, noSign, placeOf, placeAfter, partOf, nextComponent}
 use Rattle.paths.proofs.Leading.{leading-le, leading-rest, leading-signs, slice-start}

@@ -10,7 +10,7 @@ use lib.Seq.{take-length, drop-length}
 use borrow.Author.Tests.{eq-eqb}
 use Rattle.lists.specs.Lists.{keep, isEmpty}
 use Rattle.lists.proofs.Scan.{keep-append}
-use Rattle.names.specs.Units.{backslash}
+use Rattle.units.specs.Units.{backslash}
 use Rattle.paths.specs.Paths.{split, startPart, components}
 use Rattle.paths.specs.Positions.{leading, isSign, noSign}
 use Rattle.paths.proofs.Leading.{leading-le, leading-rest, leading-take, leading-signs}

@@ -8,7 +8,7 @@ use lib.ListN.{take, drop}
 use Rattle.records.specs.Sizes.{fileNameLimit}
 use Rattle.records.specs.Checked.{refused, passed, _>>=_}
 use Rattle.records.specs.declared.Status.the-variants.{ObjectNameInvalid}
-use Rattle.names.specs.Units.{backslash, colon}
+use Rattle.units.specs.Units.{backslash, colon}
 use Rattle.names.specs.Names.{validFileName}
 use Rattle.paths.specs.Paths.{split, leafOf, components, parseComponents}
 use Rattle.paths.specs.Positions.{placeOf, partOf, nextComponent, checked}

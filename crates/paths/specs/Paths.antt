@@ -9,7 +9,7 @@ use Rattle.lists.specs.Lists.{all, isEmpty, keep}
 use Rattle.records.specs.Sizes.{fileNameLimit, streamNameLimit, pathLimit}
 use Rattle.records.specs.Checked.{Checked, refused, passed, _>>=_, _>>_, refuseIf}
 use Rattle.records.specs.declared.Status.the-variants.{ObjectNameInvalid}
-use Rattle.names.specs.Units.{backslash, colon, dataType, equalUnits}
+use Rattle.units.specs.Units.{backslash, colon, dataType, equalUnits}
 use Rattle.names.specs.Names.{validFileName, validStreamName}
 
 -- the last component: its file name, its stream name, and whether it has a colon

@@ -8,7 +8,7 @@ use lib.ListN.{take, drop}
 use lib.Seq.{slice}
 use Rattle.records.specs.Checked.{Checked, refused, passed, _>>=_}
 use Rattle.records.specs.declared.Status.the-variants.{ObjectNameInvalid}
-use Rattle.names.specs.Units.{backslash}
+use Rattle.units.specs.Units.{backslash}
 use Rattle.paths.specs.Paths.{Leaf, Path, components, checkedLeaf}
 use Rattle.paths.specs.declared.Part.{Part}
 use Rattle.paths.specs.declared.LeafParts.{LeafParts}

@@ -1,12 +1,12 @@
 // Paths: how one is taken apart (step 4 of an open). A place is a number of units from the path's start.
-use names::equal_units;
 use names::valid_file_name;
 use names::valid_stream_name;
+use units::equal_units;
 ghost use mathlib.Core.Path.{_≡_};
 ghost use mathlib.Core.Bool.{true};
 ghost use mathlib.Core.List.{_∷_};
 ghost use lib.ListN.{take};
-ghost use Rattle.names.specs.Units.{backslash, colon, dataType, equalUnits};
+ghost use Rattle.units.specs.Units.{backslash, colon, dataType, equalUnits};
 ghost use Rattle.paths.specs.Paths.{components, split, leafOf, endsIn, validLeaf, parseComponents, parsePath};
 ghost use Rattle.paths.specs.Positions.{placeOf, placeAfter, nextComponent, partOf, parentsOf, asLeaf, asPath, named, checked};
 

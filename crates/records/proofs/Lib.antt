@@ -3,4 +3,3 @@ pub mod Checked
 pub mod Arrays
 pub mod Lengths
 pub mod Elements
-pub mod Searches

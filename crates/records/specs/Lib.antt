@@ -3,6 +3,5 @@ pub mod Sizes
 pub mod Constants
 pub mod Numbers
 pub mod Slots
-pub mod Free
 pub mod Namespace
 pub mod Checked

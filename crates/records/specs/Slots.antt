@@ -1,13 +1,10 @@
--- Free and used slots, and what stands at a number: past a table's end, the record of a free slot.
+-- Free and used slots.
 use Prim.Native.Nat.{ℕ}
 use mathlib.Core.Bool.{Bool, true, false, not}
-use mathlib.Core.List.{List}
 use lib.Dec.{eqb}
 use lib.ListN.{getD, replicate}
 use Rattle.records.specs.Sizes.{accounts, fileNameLimit, streamNameLimit}
 use Rattle.records.specs.declared.FileNo.{FileNo}
-use Rattle.records.specs.declared.LinkNo.{LinkNo}
-use Rattle.records.specs.declared.StreamNo.{StreamNo}
 use Rattle.records.specs.declared.FileType.{FileType}
 use Rattle.records.specs.declared.FileType.the-variants.{Unused, Data, Directory}
 use Rattle.records.specs.declared.File.{File}
@@ -73,16 +70,6 @@ streamUsed s = isUsed (s .«stream_type»)
 
 unfoldable pub openUsed : Open → Bool
 openUsed o = not (eqb (o .handle .0) 0)
-
--- what stands at a number
-unfoldable pub fileAt : List File → FileNo → File
-fileAt fs n = getD fs (n .0) zeroFile
-
-unfoldable pub linkAt : List Link → LinkNo → Link
-linkAt ls n = getD ls (n .0) zeroLink
-
-unfoldable pub streamAt : List Stream → StreamNo → Stream
-streamAt ss n = getD ss (n .0) zeroStream
 
 -- the account's access mask on a file
 unfoldable pub maskOf : File → ℕ → ℕ

@@ -1,10 +1,8 @@
 // The records of document 01: what a volume and its table of opens hold, what an open asks and what a call answers.
 // File, link and stream numbers and handles are types of their own, so that none can serve as another.
 pub mod constants;
-pub mod free;
 pub mod sizes;
 pub mod slots;
-pub mod tables;
 
 // A slot of the files table. File 0 is the root.
 pub struct FileNo(pub u16);

@@ -83,9 +83,9 @@ fn answer_equal(a: &[u8], b: &[u8]) {
     let b_units = units_of(b);
     let a_name = paths::units_before(&a_units, a.len());
     let b_name = paths::units_before(&b_units, b.len());
-    say_if(names::equal_units(a_name, b_name, false), b"exact");
+    say_if(units::equal_units(a_name, b_name, false), b"exact");
     say(b" ");
-    say_if(names::equal_units(a_name, b_name, true), b"folded");
+    say_if(units::equal_units(a_name, b_name, true), b"folded");
 }
 
 // Two names with one space between them, and no other space.

@@ -9,7 +9,8 @@ use lib.Dec.{eqb}
 use Rattle.lists.specs.Lists.{firstAfter, isEmpty, padded, writes}
 use Rattle.records.specs.Sizes.{fileNameLimit, streamNameLimit, lastHandle}
 use Rattle.records.specs.Constants.{shareRead}
-use Rattle.records.specs.Slots.{fileAt, fileUsed, linkUsed}
+use Rattle.records.specs.Slots.{fileUsed, linkUsed}
+use Rattle.tables.specs.Tables.{fileAt}
 use Rattle.records.specs.Namespace.{Namespace, BareStream, bareUsed}
 use Rattle.records.specs.Checked.{Checked, refused, passed, _>>=_, _>>_, refuseIf}
 use Rattle.records.specs.declared.Status.the-variants.{AccessDenied, SharingViolation, DiskFull, TooManyOpenedFiles, InsufficientResources}

@@ -5,11 +5,13 @@ use mathlib.Core.List.{List, []}
 use Rattle.bits.specs.Bits.{within, has, without}
 use Rattle.lists.specs.Lists.{all, allFrom, any, count, keep, pairs, firstFrom, first, firstAfter, writes, isEmpty, same, oneOf, padded}
 use Rattle.records.specs.Numbers.{statusNumber, actionNumber, outcomeNumbers}
-use Rattle.records.specs.Slots.{isUsed, isDirectory, isData, fileUsed, linkUsed, streamUsed, openUsed, fileAt, linkAt, streamAt, maskOf}
+use Rattle.records.specs.Slots.{isUsed, isDirectory, isData, fileUsed, linkUsed, streamUsed, openUsed, maskOf}
+use Rattle.tables.specs.Tables.{fileAt, linkAt, streamAt}
 use Rattle.records.specs.Namespace.{bareUsed, bareAt, bare, withCounts, namespace}
 use Rattle.records.specs.Checked.{_>>=_, _>>_, refuseIf}
-use Rattle.names.specs.Units.{upper, folded, equalUnits}
-use Rattle.names.specs.Names.{validUnit, validFileName, validStreamName, units, wellStored}
+use Rattle.units.specs.Units.{upper, folded, equalUnits}
+use Rattle.names.specs.Names.{validUnit, validFileName, validStreamName}
+use Rattle.stored_names.specs.StoredNames.{units, wellStored}
 use Rattle.paths.specs.Paths.{startPart, split, components, endsIn, leafOf, validLeaf, checkedLeaf, parseComponents, parsePath}
 use Rattle.lookup.specs.Lookup.{linkMatches, linkNumber, findLink, streamMatches, streamNumber, findStream, stepInto, descend, placeOf, locateLeaf, locate}
 use Rattle.access.specs.Access.{effective, need, accessFrom, accessRule, checkedAccess}

@@ -8,7 +8,8 @@ use lib.Dec.{eqb}
 use Rattle.bits.specs.Bits.{within, has, without}
 use Rattle.lists.specs.Lists.{isEmpty, oneOf}
 use Rattle.records.specs.Constants.{supersede, openOnly, create, openIf, overwrite, disallowExclusive, hidden, system, directory, archive, temporary, notContentIndexed, writeData, addFile, addSubdirectory, delete, allAccess, genericWrite, maximumAllowed, shareRead}
-use Rattle.records.specs.Slots.{isDirectory, fileAt, maskOf}
+use Rattle.records.specs.Slots.{isDirectory, maskOf}
+use Rattle.tables.specs.Tables.{fileAt}
 use Rattle.records.specs.Namespace.{Namespace}
 use Rattle.records.specs.Checked.{Checked, refused, passed, _>>=_, _>>_, refuseIf}
 use Rattle.records.specs.declared.Status.{Status}

@@ -8,7 +8,7 @@ use lib.Dec.{eqb}
 use lib.ListN.{length}
 use Rattle.lists.specs.Lists.{any, Permutation}
 use Rattle.records.specs.Numbers.{outcomeNumbers}
-use Rattle.records.specs.Slots.{streamAt}
+use Rattle.tables.specs.Tables.{streamAt}
 use Rattle.records.specs.Namespace.{namespace}
 use Rattle.records.specs.Checked.{passed}
 use Rattle.records.specs.declared.Status.the-variants.{SharingViolation}

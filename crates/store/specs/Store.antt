@@ -7,7 +7,8 @@ use mathlib.Core.Option.{Option, none, some}
 use lib.Dec.{eqb}
 use lib.ListN.{getD, set}
 use Rattle.lists.specs.Lists.{any, first, writes}
-use Rattle.records.specs.Slots.{zeroCounts, zeroOpen, openUsed, streamAt}
+use Rattle.records.specs.Slots.{zeroCounts, zeroOpen, openUsed}
+use Rattle.tables.specs.Tables.{streamAt}
 use Rattle.records.specs.Namespace.{BareStream, bare, withCounts, namespace}
 use Rattle.records.specs.Checked.{Checked, refused, passed}
 use Rattle.records.specs.declared.Status.{Status}

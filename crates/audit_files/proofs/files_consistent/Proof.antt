@@ -11,7 +11,8 @@ use Rattle.lists.specs.Lists.{all}
 use Rattle.lists.proofs.Default.{getD-default}
 use Rattle.lists.proofs.Scan.{all-end}
 use Rattle.lists.proofs.Passes.{pass-stops, pass-next}
-use Rattle.records.specs.Slots.{zeroFile, fileUsed, isDirectory, fileAt}
+use Rattle.records.specs.Slots.{zeroFile, fileUsed, isDirectory}
+use Rattle.tables.specs.Tables.{fileAt}
 use Rattle.records.specs.declared.File.{File}
 use Rattle.records.proofs.Lengths.{files-length}
 use Rattle.records.proofs.Elements.{arraylessFile}

@@ -10,7 +10,7 @@ use lib.ListN.{take}
 use borrow.Author.Needs.{needs}
 use Rattle.paths.specs.Paths.{Leaf, components, leafOf, split}
 use Rattle.paths.specs.Positions.{partOf, asLeaf, asPath, named, checked}
-use Rattle.names.specs.Units.{colon}
+use Rattle.units.specs.Units.{colon}
 use Rattle.paths.specs.declared.ParsedPath.{ParsedPath}
 use Rattle.paths.specs.declared.ParsedPath.the-variants.{Invalid, Root, Named}
 use Rattle.paths.proofs.Judging.{checked-none, never-root, checked-some}

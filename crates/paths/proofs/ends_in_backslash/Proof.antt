@@ -1,7 +1,7 @@
 -- `names::paths::ends_in_backslash` meets its contract, by the last unit.
 use mathlib.Core.Path.{sym}
 use borrow.Author.Needs.{needs}
-use Rattle.names.specs.Units.{backslash}
+use Rattle.units.specs.Units.{backslash}
 use Rattle.paths.proofs.Parsing.{ends-empty, ends-last}
 use Rattle.paths.proofs.ends_in_backslash.Statement.{statement}
 use Rattle.paths.proofs.ends_in_backslash.Tie as tie

@@ -1,4 +1,4 @@
--- `names::paths::next_component` meets its contract, by those of the two searches.
+-- `paths::next_component` meets its contract, by those of the two searches.
 use borrow.Author.Needs.{needs}
 use Rattle.paths.specs.Positions.{nextComponent}
 use Rattle.paths.proofs.next_component.Statement.{statement}

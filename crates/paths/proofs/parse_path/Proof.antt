@@ -5,7 +5,7 @@ use mathlib.Core.Path.{_≡_, sym, _∙_}
 use borrow.Author.Needs.{needs}
 use Rattle.paths.specs.Paths.{endsIn}
 use Rattle.paths.specs.Positions.{asPath}
-use Rattle.names.specs.Units.{backslash}
+use Rattle.units.specs.Units.{backslash}
 use Rattle.paths.proofs.Judging.{path-long, path-trail, path-fits}
 use Rattle.paths.proofs.parse_path.Statement.{statement}
 use Rattle.paths.proofs.parse_path.Tie as tie

@@ -11,7 +11,8 @@ use Rattle.bits.specs.Bits.{within, has}
 use Rattle.lists.specs.Lists.{any}
 use Rattle.records.specs.Sizes.{fileNameLimit, streamNameLimit, streamSlots}
 use Rattle.records.specs.Constants.{allAccess, directory}
-use Rattle.records.specs.Slots.{isData, isDirectory, fileUsed, fileAt}
+use Rattle.records.specs.Slots.{isData, isDirectory, fileUsed}
+use Rattle.tables.specs.Tables.{fileAt}
 use Rattle.records.specs.Namespace.{Namespace, BareStream, bareUsed, bareAt}
 use Rattle.records.specs.declared.FileNo.{FileNo}
 use Rattle.records.specs.declared.StreamNo.{StreamNo}

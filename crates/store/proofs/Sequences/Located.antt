@@ -10,7 +10,8 @@ use Rattle.lists.specs.Lists.{any, first, isEmpty, same}
 use Rattle.lists.proofs.Tests.{and-left, and-right}
 use Rattle.lists.proofs.Find.{Found, first-found, first-none}
 use Rattle.records.specs.Sizes.{fileNameLimit}
-use Rattle.records.specs.Slots.{root, isDirectory, zeroLink, fileUsed, linkUsed, fileAt, linkAt}
+use Rattle.records.specs.Slots.{root, isDirectory, zeroLink, fileUsed, linkUsed}
+use Rattle.tables.specs.Tables.{fileAt, linkAt}
 use Rattle.records.specs.Namespace.{Namespace}
 use Rattle.records.specs.Checked.{Checked, refused, passed, _>>=_}
 use Rattle.records.specs.declared.Status.the-variants.{ObjectPathNotFound}
@@ -18,8 +19,9 @@ use Rattle.records.specs.declared.FileNo.{FileNo}
 use Rattle.records.specs.declared.LinkNo.{LinkNo}
 use Rattle.records.specs.declared.Link.{Link}
 use Rattle.records.proofs.Checked.{refused≢passed, passed-same, bind-passed}
-use Rattle.names.specs.Units.{folded, equalUnits}
-use Rattle.names.specs.Names.{units, validFileName}
+use Rattle.units.specs.Units.{folded, equalUnits}
+use Rattle.names.specs.Names.{validFileName}
+use Rattle.stored_names.specs.StoredNames.{units}
 use Rattle.paths.specs.Paths.{Leaf, Path}
 use Rattle.paths.proofs.Parsed.{LeafFits}
 use Rattle.consistency.proofs.Slots.{directory-used}

@@ -17,7 +17,8 @@ use Rattle.lists.proofs.Tests.{none≢some, and-left, and-right, tested}
 use Rattle.lists.proofs.Find.{Found, first-found, first-none}
 use Rattle.records.specs.Sizes.{streamNameLimit}
 use Rattle.records.specs.Constants.{supersede, openOnly, create, openIf, overwrite, directory, archive, temporary, writeData, addFile, addSubdirectory, allAccess}
-use Rattle.records.specs.Slots.{isUsed, isData, isDirectory, fileUsed, fileAt, maskOf}
+use Rattle.records.specs.Slots.{isUsed, isData, isDirectory, fileUsed, maskOf}
+use Rattle.tables.specs.Tables.{fileAt}
 use Rattle.records.specs.Namespace.{Namespace, BareStream, zeroBare, bareUsed, bareAt}
 use Rattle.records.specs.Checked.{Checked, refused, passed, _>>=_, _>>_, refuseIf}
 use Rattle.records.specs.declared.Status.{Status}
@@ -30,8 +31,9 @@ use Rattle.records.specs.declared.StreamNo.{StreamNo}
 use Rattle.records.specs.declared.File.{File}
 use Rattle.records.specs.declared.Request.{Request}
 use Rattle.records.proofs.Checked.{refused≢passed, passed-same, bind-passed, then-passed, test-passed}
-use Rattle.names.specs.Units.{equalUnits}
-use Rattle.names.specs.Names.{units, validStreamName}
+use Rattle.units.specs.Units.{equalUnits}
+use Rattle.names.specs.Names.{validStreamName}
+use Rattle.stored_names.specs.StoredNames.{units}
 use Rattle.paths.specs.Paths.{Leaf, Path, parsePath}
 use Rattle.paths.proofs.Parsed.{LeafFits, parsed-leaf}
 use Rattle.lookup.specs.Lookup.{linkMatches, streamMatches, streamNumber, findStream, Place, found, missing, locate}

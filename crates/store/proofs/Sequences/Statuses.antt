@@ -13,7 +13,8 @@ use Rattle.lists.proofs.Keep.{any-count}
 use Rattle.lists.proofs.Find.{first-some}
 use Rattle.records.specs.Constants.{openOnly, create, openIf}
 use Rattle.records.specs.Numbers.{statusNumber}
-use Rattle.records.specs.Slots.{root, isDirectory, fileUsed, fileAt, linkAt}
+use Rattle.records.specs.Slots.{root, isDirectory, fileUsed}
+use Rattle.tables.specs.Tables.{fileAt, linkAt}
 use Rattle.records.specs.Namespace.{Namespace, BareStream, zeroBare, bareUsed}
 use Rattle.records.specs.Checked.{Checked, refused, passed, _>>=_, _>>_, refuseIf}
 use Rattle.records.specs.declared.Status.{Status}
@@ -24,8 +25,8 @@ use Rattle.records.specs.declared.StreamNo.{StreamNo}
 use Rattle.records.specs.declared.File.{File}
 use Rattle.records.specs.declared.Link.{Link}
 use Rattle.records.specs.declared.Request.{Request}
-use Rattle.names.specs.Units.{colon, folded, equalUnits}
-use Rattle.names.specs.Names.{units}
+use Rattle.units.specs.Units.{colon, folded, equalUnits}
+use Rattle.stored_names.specs.StoredNames.{units}
 use Rattle.paths.specs.Paths.{Leaf, Path, split, components, leafOf, validLeaf, checkedLeaf, parseComponents, parsePath}
 use Rattle.paths.proofs.Parsed.{parsed-leaf}
 use Rattle.lookup.specs.Lookup.{findLink, streamMatches, streamNumber, findStream, stepInto, descend, Place, found, missing, locate}

@@ -10,7 +10,8 @@ use borrow.Author.Tests.{not-false}
 use lib.ListN.{length, replicate}
 use Rattle.lists.specs.Lists.{any, keep, Permutation, nil}
 use Rattle.records.specs.Numbers.{outcomeNumbers}
-use Rattle.records.specs.Slots.{openUsed, streamAt}
+use Rattle.records.specs.Slots.{openUsed}
+use Rattle.tables.specs.Tables.{streamAt}
 use Rattle.records.specs.Namespace.{namespace}
 use Rattle.records.specs.Checked.{Checked, refused, passed, _>>_, refuseIf}
 use Rattle.records.proofs.Checked.{refuse-passed, test-passed}

@@ -11,7 +11,8 @@ use Rattle.lists.proofs.Counting.{count-fewer}
 use Rattle.lists.proofs.Keep.{length-keep}
 use Rattle.lists.proofs.Permutations.{perm-any, perm-length}
 use Rattle.records.specs.Sizes.{openSlots, lastHandle}
-use Rattle.records.specs.Slots.{openUsed, streamAt}
+use Rattle.records.specs.Slots.{openUsed}
+use Rattle.tables.specs.Tables.{streamAt}
 use Rattle.records.specs.Namespace.{Namespace, namespace, bare}
 use Rattle.records.specs.Checked.{Checked, refused, passed, _>>=_, _>>_, refuseIf}
 use Rattle.records.specs.declared.Status.the-variants.{SharingViolation, TooManyOpenedFiles, InsufficientResources}

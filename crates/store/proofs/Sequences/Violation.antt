@@ -7,7 +7,7 @@ use mathlib.Core.List.{List}
 use mathlib.Core.Logic.{_↔_}
 use native.Mathlib.Omega.{arith}
 use Rattle.records.specs.Numbers.{statusNumber}
-use Rattle.records.specs.Slots.{streamAt}
+use Rattle.tables.specs.Tables.{streamAt}
 use Rattle.records.specs.Namespace.{Namespace, namespace}
 use Rattle.records.specs.Checked.{Checked, refused, passed, _>>_}
 use Rattle.records.specs.declared.Status.{Status}

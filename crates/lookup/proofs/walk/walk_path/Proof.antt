@@ -10,7 +10,8 @@ use borrow.Author.Needs.{needs}
 use borrow.Author.Tests.{not-true, not-false}
 use Rattle.lists.specs.Lists.{first}
 use Rattle.lists.proofs.Lookups.{answerFrom, answer-here, answer-next, answer-none}
-use Rattle.records.specs.Slots.{root, isDirectory, fileAt, linkAt}
+use Rattle.records.specs.Slots.{root, isDirectory}
+use Rattle.tables.specs.Tables.{fileAt, linkAt}
 use Rattle.records.specs.Namespace.{namespace}
 use Rattle.records.specs.declared.FileNo.{FileNo}
 use Rattle.records.specs.declared.File.{File}

@@ -8,7 +8,8 @@ use mathlib.Core.Logic.{_≢_}
 use native.Mathlib.Decide.{ℕ-discrete}
 use lib.ListN.{length, set}
 use Rattle.lists.specs.Lists.{writes}
-use Rattle.records.specs.Slots.{root, isUsed, isDirectory, fileUsed, fileAt}
+use Rattle.records.specs.Slots.{root, isUsed, isDirectory, fileUsed}
+use Rattle.tables.specs.Tables.{fileAt}
 use Rattle.records.specs.Namespace.{Namespace}
 use Rattle.records.specs.declared.FileNo.{FileNo}
 use Rattle.records.specs.declared.File.{File}

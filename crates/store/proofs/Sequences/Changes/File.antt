@@ -11,7 +11,8 @@ use Rattle.lists.specs.Lists.{all, isEmpty, padded, writes}
 use Rattle.lists.proofs.Tests.{not-both, not-is, cond-true, cond-false}
 use Rattle.lists.proofs.Slots.{FreeSlot, refuted, free-stays}
 use Rattle.records.specs.Sizes.{fileNameLimit, streamNameLimit}
-use Rattle.records.specs.Slots.{root, zeroFile, zeroLink, isDirectory, fileUsed, linkUsed, fileAt}
+use Rattle.records.specs.Slots.{root, zeroFile, zeroLink, isDirectory, fileUsed, linkUsed}
+use Rattle.tables.specs.Tables.{fileAt}
 use Rattle.records.specs.Namespace.{Namespace, BareStream, zeroBare, bareUsed, bareAt}
 use Rattle.records.specs.Checked.{passed}
 use Rattle.records.proofs.Checked.{passed-same, bind-passed}
@@ -20,8 +21,9 @@ use Rattle.records.specs.declared.LinkNo.{LinkNo}
 use Rattle.records.specs.declared.StreamNo.{StreamNo}
 use Rattle.records.specs.declared.File.{File}
 use Rattle.records.specs.declared.Link.{Link}
-use Rattle.names.specs.Names.{units, validFileName}
-use Rattle.names.proofs.Padded.{file-name-units, units-padded, padded-stored, padded-begins}
+use Rattle.names.specs.Names.{validFileName}
+use Rattle.stored_names.specs.StoredNames.{units}
+use Rattle.stored_names.proofs.Padded.{file-name-units, units-padded, padded-stored, padded-begins}
 use Rattle.consistency.specs.Consistent.{StreamsConsistent}
 use Rattle.consistency.proofs.Numbered.{directory-file}
 use Rattle.store.specs.Prepare.{newFile}

@@ -10,7 +10,8 @@ use Rattle.bits.specs.Bits.{within, has}
 use Rattle.lists.proofs.Tests.{not-both}
 use Rattle.lists.proofs.Slots.{set-every}
 use Rattle.records.specs.Constants.{directory}
-use Rattle.records.specs.Slots.{root, zeroFile, isDirectory, fileUsed, fileAt}
+use Rattle.records.specs.Slots.{root, zeroFile, isDirectory, fileUsed}
+use Rattle.tables.specs.Tables.{fileAt}
 use Rattle.records.specs.declared.FileNo.{FileNo}
 use Rattle.records.specs.declared.File.{File}
 use Rattle.consistency.specs.Relations.{validMasks}

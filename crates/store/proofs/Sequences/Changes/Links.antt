@@ -12,12 +12,14 @@ use Rattle.lists.proofs.Tests.{not-both}
 use Rattle.lists.proofs.Set.{one, set-cases}
 use Rattle.lists.proofs.Slots.{FreeSlot, refuted, count-none, set-every, set-pairs, count-gained, one-before, one-added}
 use Rattle.records.specs.Sizes.{fileNameLimit}
-use Rattle.records.specs.Slots.{root, zeroLink, isDirectory, fileUsed, linkUsed, fileAt, linkAt}
+use Rattle.records.specs.Slots.{root, zeroLink, isDirectory, fileUsed, linkUsed}
+use Rattle.tables.specs.Tables.{fileAt, linkAt}
 use Rattle.records.specs.declared.FileNo.{FileNo}
 use Rattle.records.specs.declared.LinkNo.{LinkNo}
 use Rattle.records.specs.declared.File.{File}
 use Rattle.records.specs.declared.Link.{Link}
-use Rattle.names.specs.Names.{validFileName, units, wellStored}
+use Rattle.names.specs.Names.{validFileName}
+use Rattle.stored_names.specs.StoredNames.{units, wellStored}
 use Rattle.consistency.specs.Relations.{linkTo, parentOf, climb}
 use Rattle.consistency.specs.Consistent.{LinksConsistent}
 use Rattle.consistency.proofs.Slots.{same-file}

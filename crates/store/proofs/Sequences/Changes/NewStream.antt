@@ -10,14 +10,16 @@ use Rattle.lists.proofs.Tests.{not-both}
 use Rattle.lists.proofs.Set.{one}
 use Rattle.lists.proofs.Slots.{refuted, count-none, one-before, one-added}
 use Rattle.records.specs.Sizes.{streamNameLimit}
-use Rattle.records.specs.Slots.{isUsed, isDirectory, fileUsed, fileAt}
+use Rattle.records.specs.Slots.{isUsed, isDirectory, fileUsed}
+use Rattle.tables.specs.Tables.{fileAt}
 use Rattle.records.specs.Namespace.{BareStream, zeroBare, bareUsed, bareAt}
 use Rattle.records.specs.declared.FileType.{FileType}
 use Rattle.records.specs.declared.FileNo.{FileNo}
 use Rattle.records.specs.declared.StreamNo.{StreamNo}
 use Rattle.records.specs.declared.File.{File}
-use Rattle.names.specs.Names.{validStreamName, units}
-use Rattle.names.proofs.Padded.{stream-name-units, units-padded, padded-stored}
+use Rattle.names.specs.Names.{validStreamName}
+use Rattle.stored_names.specs.StoredNames.{units}
+use Rattle.stored_names.proofs.Padded.{stream-name-units, units-padded, padded-stored}
 use Rattle.consistency.specs.Relations.{streamOf, unnamedOf}
 use Rattle.consistency.specs.Consistent.{StreamsConsistent}
 use Rattle.consistency.proofs.Slots.{same-file}

@@ -9,14 +9,15 @@ use borrow.Author.Tests.{eqb-true, eq-eqb}
 use Rattle.lists.specs.Lists.{any, isEmpty}
 use Rattle.lists.proofs.Tests.{not-both, and-left, and-right, and-both, empty-is}
 use Rattle.lists.proofs.Slots.{any-fails}
-use Rattle.records.specs.Slots.{zeroLink, linkUsed, linkAt}
+use Rattle.records.specs.Slots.{zeroLink, linkUsed}
+use Rattle.tables.specs.Tables.{linkAt}
 use Rattle.records.specs.Namespace.{BareStream, zeroBare, bareUsed, bareAt}
 use Rattle.records.specs.declared.FileNo.{FileNo}
 use Rattle.records.specs.declared.LinkNo.{LinkNo}
 use Rattle.records.specs.declared.StreamNo.{StreamNo}
 use Rattle.records.specs.declared.Link.{Link}
-use Rattle.names.specs.Names.{units}
-use Rattle.names.proofs.Padded.{equal-matches}
+use Rattle.stored_names.specs.StoredNames.{units}
+use Rattle.units.proofs.Compare.{equal-matches}
 use Rattle.lookup.specs.Lookup.{linkMatches, streamMatches}
 use Rattle.consistency.specs.Relations.{linkTo, streamOf, unnamedOf}
 use Rattle.consistency.proofs.Slots.{same-file}

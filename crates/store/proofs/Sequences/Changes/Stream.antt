@@ -8,7 +8,8 @@ use lib.ListN.{set}
 use Rattle.lists.specs.Lists.{isEmpty, writes}
 use Rattle.lists.proofs.Tests.{empty-is}
 use Rattle.lists.proofs.Slots.{FreeSlot, refuted, count-none}
-use Rattle.records.specs.Slots.{isUsed, isDirectory, fileUsed, fileAt}
+use Rattle.records.specs.Slots.{isUsed, isDirectory, fileUsed}
+use Rattle.tables.specs.Tables.{fileAt}
 use Rattle.records.specs.Namespace.{Namespace, BareStream, zeroBare, bareUsed, bareAt}
 use Rattle.records.specs.Checked.{passed}
 use Rattle.records.proofs.Checked.{passed-same, bind-passed}

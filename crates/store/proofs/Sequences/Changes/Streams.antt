@@ -12,12 +12,14 @@ use Rattle.lists.proofs.Tests.{not-both}
 use Rattle.lists.proofs.Set.{one}
 use Rattle.lists.proofs.Slots.{FreeSlot, used-stays, set-every, set-pairs, count-gained}
 use Rattle.records.specs.Sizes.{streamNameLimit}
-use Rattle.records.specs.Slots.{isDirectory, fileUsed, fileAt}
+use Rattle.records.specs.Slots.{isDirectory, fileUsed}
+use Rattle.tables.specs.Tables.{fileAt}
 use Rattle.records.specs.Namespace.{BareStream, zeroBare, bareUsed, bareAt}
 use Rattle.records.specs.declared.FileNo.{FileNo}
 use Rattle.records.specs.declared.StreamNo.{StreamNo}
 use Rattle.records.specs.declared.File.{File}
-use Rattle.names.specs.Names.{validStreamName, units, wellStored}
+use Rattle.names.specs.Names.{validStreamName}
+use Rattle.stored_names.specs.StoredNames.{units, wellStored}
 use Rattle.consistency.specs.Relations.{streamOf, unnamedOf}
 use Rattle.consistency.specs.Consistent.{StreamsConsistent}
 use Rattle.store.proofs.Sequences.Facts.{StreamsKept}

@@ -14,7 +14,8 @@ use Rattle.lists.specs.Lists.{all, any, count, writes}
 use Rattle.lists.proofs.Tests.{and-left, and-right, not-is, not-both}
 use Rattle.lists.proofs.Set.{set-cases}
 use Rattle.lists.proofs.PairsPerm.{none-of, kept-each, all-weaker, keep-none}
-use Rattle.records.specs.Slots.{zeroCounts, zeroOpen, zeroStream, openUsed, streamAt}
+use Rattle.records.specs.Slots.{zeroCounts, zeroOpen, zeroStream, openUsed}
+use Rattle.tables.specs.Tables.{streamAt}
 use Rattle.records.specs.Namespace.{BareStream, zeroBare, bareUsed, bareAt, bare, withCounts}
 use Rattle.records.specs.declared.StreamNo.{StreamNo}
 use Rattle.records.specs.declared.ShareCounts.{ShareCounts}

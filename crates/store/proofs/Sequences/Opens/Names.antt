@@ -8,7 +8,8 @@ use lib.ListN.{length, length-map, List·getD-map}
 use lib.Seq.{map-set-same}
 use Rattle.lists.specs.Lists.{writes}
 use Rattle.lists.proofs.Writes.{map-writes}
-use Rattle.records.specs.Slots.{zeroStream, streamAt}
+use Rattle.records.specs.Slots.{zeroStream}
+use Rattle.tables.specs.Tables.{streamAt}
 use Rattle.records.specs.Namespace.{Namespace, BareStream, bareUsed, bareAt, bare, withCounts, namespace}
 use Rattle.records.specs.declared.StreamNo.{StreamNo}
 use Rattle.records.specs.declared.ShareCounts.{ShareCounts}

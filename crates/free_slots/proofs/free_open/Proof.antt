@@ -1,0 +1,78 @@
+-- `free_slots::free_open` meets its contract. The invariant: what is sought is what the rest of the table gives.
+use Prim.Native.Nat.{_-_}
+use mathlib.Core.Path.{_≡_, refl, sym, _∙_}
+use native.Mathlib.Omega.{arith}
+use borrow.Author.Needs.{needs}
+use Rattle.lists.specs.Lists.{firstAfter}
+use Rattle.records.specs.Slots.{openUsed}
+use Rattle.free_slots.specs.Free.{openSlot, freeOpen}
+use Rattle.records.proofs.Lengths.{rows-length}
+use Rattle.free_slots.proofs.Searches.{freeFrom, free-here, free-next, free-none}
+use Rattle.free_slots.proofs.free_open.Statement.{statement}
+use Rattle.free_slots.proofs.free_open.Tie as tie
+
+abbrev Inv-loop : tie.InvT-loop
+Inv-loop t i₀ i = freeOpen t ≡ freeFrom openSlot openUsed (t .rows) i
+
+abbrev μ-loop : tie.MeasureT-loop
+μ-loop t i₀ i = 256 - i
+
+loop-holds : tie.Need-loop-holds Inv-loop μ-loop
+unfolding freeOpen firstAfter
+loop-holds c = refl
+
+mul-o : tie.Need-mul-o Inv-loop μ-loop
+mul-o c = search needs
+
+element-copy-out-o : tie.Need-element-copy-out-o Inv-loop μ-loop
+element-copy-out-o c = search needs
+
+open-used-requires : tie.Need-open-used-requires Inv-loop μ-loop
+open-used-requires c κs = search needs
+
+returns : tie.Need-returns Inv-loop μ-loop
+unfolding openSlot
+returns c =
+    let u = c .before in
+    let l = u .before .before .before in
+    let h = rows-length (l .before .args .t1) _ (l .before .good .0) in
+    sym
+    (l .loop .inv
+    ∙ free-here openSlot openUsed (l .before .args .t1 .rows) (l .loop .i) _ (omega arith) (u .open-used .ensures) (c .if1 .taken))
+
+add-i : tie.Need-add-i Inv-loop μ-loop
+add-i c = search needs
+
+loop-less : tie.Need-loop-less Inv-loop μ-loop
+loop-less c = search needs
+
+loop-again : tie.Need-loop-again Inv-loop μ-loop
+loop-again c =
+    let u = c .before in
+    let l = u .before .before .before in
+    let h = rows-length (l .before .args .t1) _ (l .before .good .0) in
+    l .loop .inv
+    ∙ free-next openSlot openUsed (l .before .args .t1 .rows) (l .loop .i) _ (omega arith) (u .open-used .ensures) (c .if1 .left)
+
+returns-2 : tie.Need-returns-2 Inv-loop μ-loop
+unfolding openSlot
+returns-2 c =
+    let l = c .before in
+    let h = rows-length (l .before .args .t1) _ (l .before .good .0) in
+    sym (l .loop .inv ∙ free-none openSlot openUsed (l .before .args .t1 .rows) (l .loop .i) (omega arith))
+
+pub free-open-spec : {M : Type 1} → statement M
+free-open-spec =
+    tie.close
+    (tie.spec
+    Inv-loop
+    μ-loop
+    loop-holds
+    mul-o
+    element-copy-out-o
+    open-used-requires
+    returns
+    add-i
+    loop-less
+    loop-again
+    returns-2)

@@ -1,0 +1,113 @@
+// The lowest free slot of each table, and whether a file has an open.
+use records::FileNo;
+use records::LinkNo;
+use records::OpenTable;
+use records::StreamNo;
+use records::Volume;
+use records::sizes::FILE_SLOTS;
+use records::sizes::LINK_SLOTS;
+use records::sizes::OPEN_SLOTS;
+use records::sizes::STREAM_SLOTS;
+use records::slots::file_used;
+use records::slots::link_used;
+use records::slots::open_used;
+use records::slots::stream_used;
+ghost use mathlib.Core.Path.{_≡_};
+ghost use Rattle.free_slots.specs.Free.{freeFile, freeLink, freeStream, freeOpen, fileHasOpen};
+
+// What a search for a free slot finds: the lowest one, or that the table is full.
+pub enum FileSlot {
+    At(FileNo),
+    Full,
+}
+
+pub enum LinkSlot {
+    At(LinkNo),
+    Full,
+}
+
+pub enum StreamSlot {
+    At(StreamNo),
+    Full,
+}
+
+// A row of the open table has no number of its own kind: handles come from elsewhere.
+pub enum OpenSlot {
+    At(usize),
+    Full,
+}
+
+pub fn free_file(v: Volume) -> FileSlot
+    ensures { λ r. ⌜ r ≡ freeFile v ⌝ }
+{
+    let mut i: usize = 0;
+    while i < FILE_SLOTS {
+        let f = v.files[i];
+        if !file_used(f) {
+            let n = i as u16;
+            return FileSlot::At(FileNo(n));
+        }
+        i += 1;
+    }
+    FileSlot::Full
+}
+
+pub fn free_link(v: Volume) -> LinkSlot
+    ensures { λ r. ⌜ r ≡ freeLink v ⌝ }
+{
+    let mut i: usize = 0;
+    while i < LINK_SLOTS {
+        let l = v.links[i];
+        if !link_used(l) {
+            let n = i as u16;
+            return LinkSlot::At(LinkNo(n));
+        }
+        i += 1;
+    }
+    LinkSlot::Full
+}
+
+// The search starts at a place: an open may add two streams.
+pub fn free_stream(v: Volume, from: usize) -> StreamSlot
+    ensures { λ r. ⌜ r ≡ freeStream v from ⌝ }
+{
+    let mut i = from;
+    while i < STREAM_SLOTS {
+        let s = v.streams[i];
+        if !stream_used(s) {
+            let n = i as u16;
+            return StreamSlot::At(StreamNo(n));
+        }
+        i += 1;
+    }
+    StreamSlot::Full
+}
+
+pub fn free_open(t: OpenTable) -> OpenSlot
+    ensures { λ r. ⌜ r ≡ freeOpen t ⌝ }
+{
+    let mut i: usize = 0;
+    while i < OPEN_SLOTS {
+        let o = t.rows[i];
+        if !open_used(o) {
+            return OpenSlot::At(i);
+        }
+        i += 1;
+    }
+    OpenSlot::Full
+}
+
+// Some open, counted or not, is on the file.
+pub fn file_has_open(t: OpenTable, f: FileNo) -> bool
+    ensures { λ r. ⌜ r ≡ fileHasOpen t f ⌝ }
+{
+    let mut i: usize = 0;
+    while i < OPEN_SLOTS {
+        let o = t.rows[i];
+        if open_used(o) && o.file.0 == f.0 {
+            return true;
+        }
+        i += 1;
+    }
+    false
+}

@@ -1,0 +1,56 @@
+-- `names::is_dots` meets its contract, by the name's length.
+use mathlib.Core.Bool.{Bool, true, false, _&&_}
+use mathlib.Core.Path.{_≡_, _∙_, sym}
+use lib.Dec.{eqb}
+use lib.ListN.{getD}
+use borrow.Author.Needs.{needs}
+use borrow.Author.Tests.{eq-eqb, ne-eqb}
+use Rattle.units.specs.Units.{dot}
+use Rattle.names.proofs.ValidNames.{dots-one, dots-two, dots-none}
+use Rattle.names.proofs.is_dots.Statement.{statement}
+use Rattle.names.proofs.is_dots.Tie as tie
+
+both-right : (a b : Bool) → a ≡ true → b ≡ (a && b)
+both-right a b e = rw e
+
+both-left : (a b : Bool) → a ≡ false → a ≡ (a && b)
+both-left a b e = rw e
+
+shared-slice-read-result : tie.Need-shared-slice-read-result
+shared-slice-read-result c = search needs
+
+returns : tie.Need-returns
+returns c = dots-one (c .before .before .args .name .now) (c .before .if1 .taken)
+
+shared-slice-read-if3 : tie.Need-shared-slice-read-if3
+shared-slice-read-if3 c = search needs
+
+shared-slice-read-result-2 : tie.Need-shared-slice-read-result-2
+shared-slice-read-result-2 c = search needs
+
+returns-2 : tie.Need-returns-2
+returns-2 c =
+    let s = c .before .before .before in
+    let n = s .before .before .args .name .now in
+    both-right (eqb (getD n 0 0) dot) (eqb (getD n 1 0) dot) (eq-eqb _ dot (c .before .if3 .taken)) ∙ dots-two n (s .if2 .taken)
+
+returns-3 : tie.Need-returns-3
+returns-3 c =
+    let s = c .before .before in
+    let n = s .before .before .args .name .now in
+    both-left (eqb (getD n 0 0) dot) (eqb (getD n 1 0) dot) (ne-eqb _ dot (c .if3 .left)) ∙ dots-two n (s .if2 .taken)
+
+returns-4 : tie.Need-returns-4
+returns-4 c = sym (dots-none (c .before .before .args .name .now) (c .before .if1 .left) (c .if2 .left))
+
+pub is-dots-spec : {M : Type 1} → statement M
+is-dots-spec =
+    tie.close
+    (tie.spec
+    shared-slice-read-result
+    returns
+    shared-slice-read-if3
+    shared-slice-read-result-2
+    returns-2
+    returns-3
+    returns-4)

@@ -1,0 +1,82 @@
+-- `names::valid_units` meets its contract, for every limit. The loop's invariant: the answer is that for the units left.
+use Prim.Native.Nat.{_-_}
+use mathlib.Core.Path.{_≡_, sym, _∙_}
+use native.Mathlib.Omega.{arith}
+use lib.ListN.{length, drop}
+use borrow.Author.Needs.{needs}
+use borrow.Author.Tests.{not-true, not-false}
+use Rattle.lists.proofs.Scan.{all-fails, all-next, all-end}
+use Rattle.lists.specs.Lists.{all}
+use Rattle.names.specs.Names.{validUnit, validStreamName}
+use Rattle.names.proofs.ValidNames.{stream-name-long, stream-name-units}
+use Rattle.names.proofs.valid_units.Statement.{statement}
+use Rattle.names.proofs.valid_units.Tie as tie
+
+abbrev Inv-loop : tie.InvT-loop
+Inv-loop name limit i₀ i = validStreamName limit name ≡ all validUnit (drop i name)
+
+abbrev μ-loop : tie.MeasureT-loop
+μ-loop name limit i₀ i = length name - i
+
+returns : tie.Need-returns Inv-loop μ-loop
+returns c =
+    let s = c .before .before .args in
+    sym (stream-name-long (s .limit) (s .name .now) (c .if1 .taken))
+
+loop-holds : tie.Need-loop-holds Inv-loop μ-loop
+loop-holds c =
+    let s = c .before .before .args in
+    stream-name-units (s .limit) (s .name .now) (c .if1 .left)
+
+mul-valid-unit : tie.Need-mul-valid-unit Inv-loop μ-loop
+mul-valid-unit c = search needs
+
+shared-slice-read-valid-unit : tie.Need-shared-slice-read-valid-unit Inv-loop μ-loop
+shared-slice-read-valid-unit c = search needs
+
+valid-unit-requires : tie.Need-valid-unit-requires Inv-loop μ-loop
+valid-unit-requires c κs = search needs
+
+returns-2 : tie.Need-returns-2 Inv-loop μ-loop
+returns-2 c =
+    let l = c .before .before .before .before in
+    let s = l .before .before .before .args in
+    sym
+    (l .loop .inv
+    ∙ all-fails validUnit (s .name .now) (l .loop .i) 0 (omega arith) (sym (c .before .valid-unit .ensures) ∙ not-true _ (c .if2 .taken)))
+
+add-i : tie.Need-add-i Inv-loop μ-loop
+add-i c = search needs
+
+loop-less : tie.Need-loop-less Inv-loop μ-loop
+loop-less c = search needs
+
+loop-again : tie.Need-loop-again Inv-loop μ-loop
+loop-again c =
+    let l = c .before .before .before .before in
+    let s = l .before .before .before .args in
+    l .loop .inv
+    ∙ all-next validUnit (s .name .now) (l .loop .i) 0 (omega arith) (sym (c .before .valid-unit .ensures) ∙ not-false _ (c .if2 .left))
+
+returns-3 : tie.Need-returns-3 Inv-loop μ-loop
+returns-3 c =
+    let l = c .before in
+    let s = l .before .before .before .args in
+    sym (l .loop .inv ∙ all-end validUnit (s .name .now) (l .loop .i) (c .loop-test .left))
+
+pub valid-units-spec : {M : Type 1} → statement M
+valid-units-spec =
+    tie.close
+    (tie.spec
+    Inv-loop
+    μ-loop
+    returns
+    loop-holds
+    mul-valid-unit
+    shared-slice-read-valid-unit
+    valid-unit-requires
+    returns-2
+    add-i
+    loop-less
+    loop-again
+    returns-3)

@@ -1,0 +1,15 @@
+-- `stored_names::is_unnamed` meets its contract: a name is empty exactly where its first place is zero.
+use mathlib.Core.Path.{sym}
+use Rattle.stored_names.proofs.StoredUnits.{units-empty}
+use borrow.Author.Needs.{needs}
+use Rattle.stored_names.proofs.is_unnamed.Statement.{statement}
+use Rattle.stored_names.proofs.is_unnamed.Tie as tie
+
+array-read-result : tie.Need-array-read-result
+array-read-result c = search needs
+
+returns : tie.Need-returns
+returns c = sym (units-empty (c .args .t1))
+
+pub is-unnamed-spec : {M : Type 1} → statement M
+is-unnamed-spec = tie.close (tie.spec array-read-result returns)

@@ -1,0 +1,22 @@
+-- `stored_names::unit_at` meets its contract: past the last place an element is the default.
+use mathlib.Core.Path.{sym}
+use native.Mathlib.Omega.{arith}
+use lib.ListN.{List·getD-eq-default}
+use borrow.Author.Needs.{needs}
+use Rattle.stored_names.proofs.unit_at.Statement.{statement}
+use Rattle.stored_names.proofs.unit_at.Tie as tie
+
+mul-result : tie.Need-mul-result
+mul-result c = search needs
+
+array-read-result : tie.Need-array-read-result
+array-read-result c = search needs
+
+returns : tie.Need-returns
+returns c = search needs
+
+returns-2 : tie.Need-returns-2
+returns-2 c = sym (List·getD-eq-default (c .before .args .t1) 0 (omega arith))
+
+pub unit-at-spec : {M : Type 1} → statement M
+unit-at-spec = tie.close (tie.spec mul-result array-read-result returns returns-2)

@@ -1,0 +1,53 @@
+-- `stored_names::valid_stored_name` meets its contract: the part before the first zero is the name's units.
+use Prim.Native.Nat.{ℕ, _≤_}
+use mathlib.Core.Path.{_≡_, sym, ap, _∙_}
+use mathlib.Core.List.{List}
+use native.Mathlib.Omega.{arith}
+use lib.ListN.{length, take, drop, length-append}
+use lib.Seq.{take-append-seam, length-take-le}
+use borrow.Author.Needs.{needs}
+use Rattle.records.specs.Sizes.{fileNameLimit}
+use Rattle.names.specs.Names.{validFileName}
+use Rattle.stored_names.specs.StoredNames.{units}
+use Rattle.stored_names.proofs.NameUnits.{units-prefix}
+use Rattle.stored_names.proofs.valid_stored_name.Statement.{statement}
+use Rattle.stored_names.proofs.valid_stored_name.Tie as tie
+
+units-taken : (n : List ℕ) → take (length (units n)) n ≡ units n
+units-taken n =
+    ap (take (length (units n))) (sym (units-prefix n)) ∙ take-append-seam (units n) (drop (length (units n)) n)
+
+units-fit : (n : List ℕ) → length (units n) ≤ length n
+units-fit n =
+    omega (arith, length-append (units n) (drop (length (units n)) n), ap length (units-prefix n))
+
+name-length-requires : tie.Need-name-length-requires
+name-length-requires c κs = search needs
+
+array-share-prefix-name : tie.Need-array-share-prefix-name
+array-share-prefix-name c = omega (arith, c .name-length .ensures, units-fit (c .before .args .t1))
+
+slice-aggregate-valid-file-name : tie.Need-slice-aggregate-valid-file-name
+slice-aggregate-valid-file-name c =
+    let a = c .before .before .args in
+    sym (length-take-le _ (a .t1) (omega (arith, c .before .name-length .ensures, units-fit (a .t1))))
+
+valid-file-name-requires : tie.Need-valid-file-name-requires
+valid-file-name-requires c κs = search needs
+
+returns : tie.Need-returns
+returns c =
+    let n = c .before .before in
+    let a = n .before .args in
+    c .valid-file-name .ensures
+    ∙ ap (validFileName fileNameLimit) (ap (λ (k : ℕ). take k (a .t1)) (n .name-length .ensures) ∙ units-taken (a .t1))
+
+pub valid-stored-name-spec : {M : Type 1} → statement M
+valid-stored-name-spec =
+    tie.close
+    (tie.spec
+    name-length-requires
+    array-share-prefix-name
+    slice-aggregate-valid-file-name
+    valid-file-name-requires
+    returns)
