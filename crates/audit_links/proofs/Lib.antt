@@ -1,1 +1,2 @@
-pub mod LinksScan
+mod ParentsScan
+mod LinksScan

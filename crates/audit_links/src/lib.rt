@@ -1,5 +1,7 @@
 // The audit of the links table: each link by itself, then all pairs, then the links and the parents of each file.
-use audit_parents::files_linked;
+mod parents;
+
+use crate::parents::files_linked;
 use records::FileType;
 use records::Link;
 use records::Volume;

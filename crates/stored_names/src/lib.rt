@@ -99,7 +99,8 @@ pub fn valid_stored_stream_name(name: [u16; 32]) -> bool
 pub fn is_unnamed(name: [u16; 32]) -> bool
     ensures { λ r. ⌜ r ≡ isEmpty (units name) ⌝ }
 {
-    name[0] == 0
+    let first = name[0];
+    first == 0
 }
 
 // The name is all zero.

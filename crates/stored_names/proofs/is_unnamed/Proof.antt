@@ -5,11 +5,11 @@ use borrow.Author.Needs.{needs}
 use Rattle.stored_names.proofs.is_unnamed.Statement.{statement}
 use Rattle.stored_names.proofs.is_unnamed.Tie as tie
 
-array-read-result : tie.Need-array-read-result
-array-read-result c = search needs
+array-read-first : tie.Need-array-read-first
+array-read-first c = search needs
 
 returns : tie.Need-returns
 returns c = sym (units-empty (c .args .t1))
 
 pub is-unnamed-spec : {M : Type 1} → statement M
-is-unnamed-spec = tie.close (tie.spec array-read-result returns)
+is-unnamed-spec = tie.close (tie.spec array-read-first returns)
