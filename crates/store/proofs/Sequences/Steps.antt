@@ -1,28 +1,25 @@
 -- Each kind of call keeps tables and model related, and is answered alike.
-use Prim.Native.Nat.{ℕ, suc, _≤_, _<_}
-use mathlib.Core.Path.{_≡_, refl, sym, _∙_, ap, ap₂, subst, subst₂}
+use Prim.Native.Nat.{ℕ, suc, _<_}
+use mathlib.Core.Path.{_≡_, refl, sym, _∙_, ap, subst}
 use mathlib.Core.Bool.{Bool, true, false, not, _&&_}
-use mathlib.Core.List.{List, [], _∷_, map}
+use mathlib.Core.List.{List, _∷_}
 use mathlib.Core.Option.{Option, none, some}
 use mathlib.Core.Logic.{_⊎_, inl, inr, ⊎-elim}
-use lib.Bits.{bitOr}
-use lib.ListN.{length, getD, set, length-map}
+use lib.ListN.{length, set}
 use borrow.Author.Tests.{not-true}
-use Rattle.lists.specs.Lists.{any, first, keep, Permutation, both, skip}
+use Rattle.lists.specs.Lists.{any, first, keep, both, skip}
 use Rattle.lists.proofs.Tests.{and-left}
 use Rattle.lists.proofs.All.{any-of}
 use Rattle.lists.proofs.Find.{Found, first-found, first-none}
-use Rattle.lists.proofs.Permutations.{perm-any, perm-sym}
+use Rattle.lists.proofs.Permutations.{perm-any}
 use Rattle.lists.proofs.PairsPerm.{none-too}
 use Rattle.records.specs.Constants.{shareRead}
 use Rattle.records.specs.Numbers.{statusNumber, outcomeNumbers}
 use Rattle.records.specs.Slots.{zeroOpen, openUsed}
-use Rattle.records.specs.Namespace.{Namespace, BareStream, bare, bareUsed, bareAt, namespace}
+use Rattle.records.specs.Namespace.{Namespace, bare, bareUsed, bareAt, namespace}
 use Rattle.records.specs.Checked.{Checked, refused, passed, _>>=_}
 use Rattle.records.specs.declared.Status.{Status}
 use Rattle.records.specs.declared.Status.the-variants.{InvalidHandle}
-use Rattle.records.specs.declared.Outcome.{Outcome}
-use Rattle.records.specs.declared.Outcome.the-variants.{Success, Done, Refused}
 use Rattle.records.specs.declared.StreamNo.{StreamNo}
 use Rattle.records.specs.declared.Handle.{Handle}
 use Rattle.records.specs.declared.Answer.{Answer}
@@ -30,7 +27,6 @@ use Rattle.records.specs.declared.Open.{Open}
 use Rattle.records.specs.declared.Request.{Request}
 use Rattle.records.specs.declared.Volume.{Volume}
 use Rattle.records.specs.declared.OpenTable.{OpenTable}
-use Rattle.records.proofs.Checked.{bind-of, bind-refused}
 use Rattle.sharing.specs.Sharing.{onStream, conflict, anyConflict}
 use Rattle.sharing.proofs.Check.{any-conflict-perm}
 use Rattle.consistency.specs.Relations.{live}
@@ -38,12 +34,12 @@ use Rattle.consistency.specs.Consistent.{Consistent, FilesConsistent, LinksCons
 use Rattle.consistency.specs.Test.{consistent}
 use Rattle.consistency.proofs.Equivalence.{consistent-complete}
 use Rattle.store.specs.Prepare.{Pending, prepare}
-use Rattle.store.specs.Complete.{View, Change, changed, Decision, complete, decide}
-use Rattle.store.specs.Store.{refusal, whenConsistent, storeView, changedVolume, rowsWithOpen, volumeWithOpen, openConcluded, openAnswer, hasHandle, volumeWithoutOpen, closeConcluded, closeAnswer, volumeMarked, setReadOnlyAnswer}
+use Rattle.store.specs.Complete.{View, changed, Decision, complete, decide}
+use Rattle.store.specs.Store.{refusal, whenConsistent, storeView, changedVolume, volumeWithOpen, openConcluded, openAnswer, hasHandle, volumeWithoutOpen, closeConcluded, closeAnswer, volumeMarked, setReadOnlyAnswer}
 use Rattle.store.specs.Model.{Model, Reply, Step, modelRefusal, modelView, modelOpened, modelOpen, modelClose, modelSetReadOnly}
 use Rattle.store.specs.Calls.{Call, opens, closes, setsReadOnly, Tables, answered, storeStep, modelStep}
 use Rattle.store.specs.Sequences.{isCorrupt, handleOf}
-use Rattle.store.proofs.Sequences.Facts.{NamesConsistent, PendingFits, StreamsKept, Joins}
+use Rattle.store.proofs.Sequences.Facts.{NamesConsistent, PendingFits, Joins}
 use Rattle.store.proofs.Sequences.Prepared.{prepared}
 use Rattle.store.proofs.Sequences.Opens.Names.{used-below, with-open-names, without-open-names, changed-names}
 use Rattle.store.proofs.Sequences.Opens.Table.{opens-kept}
@@ -52,7 +48,7 @@ use Rattle.store.proofs.Sequences.Opens.Leave.{left, left-live}
 use Rattle.store.proofs.Sequences.Opens.Counts.{counts-joined, counts-changed-free, counts-left, free-unopened}
 use Rattle.store.proofs.Sequences.Opens.Conflicts.{share-more}
 use Rattle.store.proofs.Sequences.Opens.Close.{handle-live, closed-kept}
-use Rattle.store.proofs.Sequences.Views.{Related, completed-alike, views-alike, conflicts-agree}
+use Rattle.store.proofs.Sequences.Views.{Related, completed-alike, views-alike}
 use Rattle.store.proofs.Sequences.Statuses.{other, spares, corrupt, spares-refusal, prepare-spares, complete-spares}
 use Rattle.store.proofs.Sequences.Completed.{DecisionFits, Unopposed, completed}
 
@@ -104,6 +100,9 @@ module _ {t : Tables} {m : Model} (related : Related t m) (d : Decision) (fits :
   abbrev o : Open
   o = d .newOpen
 
+  abbrev opened : Answer
+  opened = openConcluded (t .volume) (t .opens) (passed d)
+
   was : OpensConsistent (namespace (t .volume) .streams) (t .volume .«next_handle» .0) (t .opens .rows)
   was = related .consistentTables .opens
 
@@ -118,15 +117,21 @@ module _ {t : Tables} {m : Model} (related : Related t m) (d : Decision) (fits :
       (q .2)
   unopposed-now (inr f) = none-on-stream (o .stream) (o .granted) (o .share) (live (t .opens .rows)) (free-unopened was (o .stream) f)
 
-  names-after : namespace (volumeWithOpen o (changedVolume (d .change) (t .volume))) ≡ changed (d .change) (namespace (t .volume))
-  names-after = with-open-names o (changedVolume (d .change) (t .volume)) ∙ changed-names (d .change) (t .volume)
+  -- the names, the next handle and the share counts after it
+  names-after : namespace (opened .volume) ≡ changed (d .change) (namespace (t .volume))
+  unfolding openConcluded
+  names-after = with-open-names _ _ ∙ changed-names (d .change) (t .volume)
+
+  next-after : opened .volume .«next_handle» .0 ≡ suc (t .volume .«next_handle» .0)
+  unfolding openConcluded volumeWithOpen changedVolume
+  next-after = refl
 
   joins-next : Joins (changed (d .change) (namespace (t .volume)) .streams) (t .volume .«next_handle» .0) o
   unfolding modelView
   joins-next = subst (λ (n : ℕ). Joins (changed (d .change) (namespace (t .volume)) .streams) n o) (sym (related .nextHandle)) (fits .joins)
 
-  counts-after : CountsTrue (volumeWithOpen o (changedVolume (d .change) (t .volume)) .streams) (rowsWithOpen o (t .opens .rows))
-  unfolding volumeWithOpen changedVolume namespace
+  counts-after : CountsTrue (opened .volume .streams) (opened .opens .rows)
+  unfolding openConcluded volumeWithOpen changedVolume namespace
   counts-after =
       counts-joined o (changedVolume (d .change) (t .volume) .streams) (t .opens .rows) below (joins-used joins-next (was .nextAtLeast)) roomy
       (counts-changed-free was (d .change .streams) (fits .writtenFree) (t .volume .streams) (related .consistentTables .counts))
@@ -137,20 +142,18 @@ module _ {t : Tables} {m : Model} (related : Related t m) (d : Decision) (fits :
           (ap (λ (ns : Namespace). bareUsed (bareAt (ns .streams) (o .stream))) (changed-names (d .change) (t .volume))
           ∙ fits .joins .streamUsed)
 
-  pub open-related :
-      Related
-      (record { volume = volumeWithOpen o (changedVolume (d .change) (t .volume)); opens = record { rows = rowsWithOpen o (t .opens .rows) } })
-      (record { names = changed (d .change) (m .names); count = suc (m .count); entries = o ∷ m .entries })
-  unfolding volumeWithOpen changedVolume
+  pub open-related : Related (answered opened .state) (modelOpened m (passed d) .state)
+  unfolding openConcluded answered modelOpened
   open-related =
+      let opens = joined (opens-kept was (fits .kept)) joins-next (unopposed-now (fits .unopposed)) roomy in
       record {
         consistentTables =
-            consistent-with _ _ (changed (d .change) (namespace (t .volume))) names-after (fits .after)
-            (joined (opens-kept was (fits .kept)) joins-next (unopposed-now (fits .unopposed)) roomy) counts-after;
+            consistent-with (opened .volume) (opened .opens) (changed (d .change) (namespace (t .volume))) names-after (fits .after)
+            (rw next-after opens) counts-after;
         opensAreEntries =
             both (joined-live o (t .opens .rows) roomy (joins-used joins-next (was .nextAtLeast))) (skip o (related .opensAreEntries));
         sameNames = names-after ∙ ap (changed (d .change)) (related .sameNames);
-        nextHandle = ap suc (related .nextHandle);
+        nextHandle = next-after ∙ ap suc (related .nextHandle);
       }
 
 -- a refusal with another status than FILE_CORRUPT_ERROR leaves both as they were
@@ -206,29 +209,39 @@ module _ {t : Tables} {m : Model} (related : Related t m) where
       (prepared-together (prepare ns r units) (prepare-spares ns r units (names-of (related .consistentTables))) (λ p e. prepared ns r units p (names-of (related .consistentTables)) e)))
 
   -- the open of a handle leaves both
-  closed-related : (h : Handle) (i : ℕ) → Found (hasHandle h) (t .opens .rows) zeroOpen 0 i
-      → Related
-      (record { volume = volumeWithoutOpen (openAt (t .opens .rows) i) (t .volume); opens = record { rows = set (t .opens .rows) i zeroOpen } })
-      (record { names = m .names; count = m .count; entries = keep (λ o. not (hasHandle h o)) (m .entries) })
-  unfolding volumeWithoutOpen hasHandle namespace
-  closed-related h i f =
-      let rows = t .opens .rows in
-      let was = related .consistentTables .opens in
-      let used = and-left (openUsed (openAt rows i)) _ (f .passes) in
-      let gone = left-live rows i (f .below) used in
-      record {
-        consistentTables =
-            consistent-with _ _ (namespace (t .volume)) (without-open-names (openAt rows i) (t .volume))
-            (names-of (related .consistentTables)) (left was i)
-            (counts-left (t .volume .streams) rows i (f .below) used (below (was .namesUsedStream i used)) (related .consistentTables .counts));
-        opensAreEntries = closed-kept h (openAt rows i) was gone (related .opensAreEntries) (f .passes);
-        sameNames = without-open-names (openAt rows i) (t .volume) ∙ related .sameNames;
-        nextHandle = related .nextHandle;
-      }
-    where
-      below : bareUsed (bareAt (namespace (t .volume) .streams) (openAt (t .opens .rows) i .stream)) ≡ true
-          → openAt (t .opens .rows) i .stream .0 < length (t .volume .streams)
-      below = used-below (t .volume .streams) (openAt (t .opens .rows) i .stream)
+  module _ (h : Handle) (i : ℕ) (f : Found (hasHandle h) (t .opens .rows) zeroOpen 0 i) where
+    abbrev closed : Answer
+    closed = closeConcluded (t .volume) (t .opens) (some i)
+
+    used : openUsed (openAt (t .opens .rows) i) ≡ true
+    unfolding hasHandle
+    used = and-left (openUsed (openAt (t .opens .rows) i)) _ (f .passes)
+
+    closed-names : namespace (closed .volume) ≡ namespace (t .volume)
+    unfolding closeConcluded
+    closed-names = without-open-names _ _
+
+    closed-counts : CountsTrue (closed .volume .streams) (closed .opens .rows)
+    unfolding closeConcluded volumeWithoutOpen namespace
+    closed-counts =
+        counts-left (t .volume .streams) (t .opens .rows) i (f .below) used
+        (used-below (t .volume .streams) (openAt (t .opens .rows) i .stream) (related .consistentTables .opens .namesUsedStream i used))
+        (related .consistentTables .counts)
+
+    closed-related : Related (answered closed .state)
+        (record { names = m .names; count = m .count; entries = keep (λ o. not (hasHandle h o)) (m .entries) })
+    unfolding closeConcluded volumeWithoutOpen answered
+    closed-related =
+        record {
+          consistentTables =
+              consistent-with (closed .volume) (closed .opens) (namespace (t .volume)) closed-names
+              (names-of (related .consistentTables)) (left (related .consistentTables .opens) i) closed-counts;
+          opensAreEntries =
+              closed-kept h (openAt (t .opens .rows) i) (related .consistentTables .opens) (left-live (t .opens .rows) i (f .below) used)
+              (related .opensAreEntries) (f .passes);
+          sameNames = closed-names ∙ related .sameNames;
+          nextHandle = related .nextHandle;
+        }
 
   same-handles : (h : Handle) → any (hasHandle h) (t .opens .rows) ≡ any (hasHandle h) (m .entries)
   same-handles h = sym (handle-live h (t .opens .rows)) ∙ perm-any (hasHandle h) (related .opensAreEntries)

@@ -12,11 +12,11 @@ use Rattle.records.specs.Slots.{zeroStream}
 use Rattle.tables.specs.Tables.{streamAt}
 use Rattle.records.specs.Namespace.{Namespace, BareStream, bareUsed, bareAt, bare, withCounts, namespace}
 use Rattle.records.specs.declared.StreamNo.{StreamNo}
+use Rattle.records.specs.declared.Handle.{Handle}
 use Rattle.records.specs.declared.ShareCounts.{ShareCounts}
 use Rattle.records.specs.declared.Stream.{Stream}
 use Rattle.records.specs.declared.Open.{Open}
 use Rattle.records.specs.declared.Volume.{Volume}
-use Rattle.sharing.specs.Sharing.{withOpen, withoutOpen}
 use Rattle.consistency.proofs.Streams.{stream-in}
 use Rattle.store.specs.Complete.{Change, changed}
 use Rattle.store.specs.Store.{freshStream, changedVolume, recount, volumeWithOpen, volumeWithoutOpen}
@@ -34,23 +34,32 @@ pub recount-bare : (f : ShareCounts → ShareCounts) (s : StreamNo) (ss : List S
 unfolding recount streamAt bare withCounts
 recount-bare f s ss = map-set-same bare ss (s .0) _ zeroStream refl
 
--- names are equal where their streams are, all else being the volume's
-same-streams : (v : Volume) {ss : List BareStream} → ss ≡ map bare (v .streams)
-    → Path Namespace (record { readOnly = v .«read_only»; files = v .files; links = v .links; streams = ss }) (namespace v)
+-- names do not look at share counts and the next handle: whatever these become, the names stay
+recounted-names : (f : ShareCounts → ShareCounts) (s : StreamNo) (next : Handle) (v : Volume)
+    → Path Namespace
+    (namespace
+    (record {
+      «read_only» = v .«read_only»;
+      «next_handle» = next;
+      files = v .files;
+      links = v .links;
+      streams = recount f s (v .streams);
+    }))
+    (namespace v)
 unfolding namespace
-same-streams v e =
+recounted-names f s next v =
     ap
     (λ (bs : List BareStream).
     record { readOnly = v .«read_only»; files = v .files; links = v .links; streams = bs })
-    e
+    (recount-bare f s (v .streams))
 
 pub with-open-names : (o : Open) (v : Volume) → namespace (volumeWithOpen o v) ≡ namespace v
-unfolding namespace volumeWithOpen
-with-open-names o v = same-streams v (recount-bare _ (o .stream) (v .streams))
+unfolding volumeWithOpen
+with-open-names o v = recounted-names _ _ _ v
 
 pub without-open-names : (o : Open) (v : Volume) → namespace (volumeWithoutOpen o v) ≡ namespace v
-unfolding namespace volumeWithoutOpen
-without-open-names o v = same-streams v (recount-bare _ (o .stream) (v .streams))
+unfolding volumeWithoutOpen
+without-open-names o v = recounted-names _ _ _ v
 
 -- the streams that a change writes, without their counts
 pub fresh-bare : (ws : List (StreamNo × BareStream)) (ss : List Stream)
