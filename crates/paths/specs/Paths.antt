@@ -30,7 +30,7 @@ startPart u (part ∷ parts) = (u ∷ part) ∷ parts
 
 unfoldable pub split : ℕ → List ℕ → List (List ℕ)
 split sep [] = [] ∷ []
-split sep (u ∷ us) = cond (eqb u sep) ([] ∷ split sep us) (startPart u (split sep us))
+split sep (u ∷ us) = let rest = split sep us in cond (eqb u sep) ([] ∷ rest) (startPart u rest)
 
 -- backslashes separate; empty components vanish
 unfoldable pub components : List ℕ → List (List ℕ)
