@@ -1,6 +1,10 @@
 -- `paths::next_component` meets its contract, by those of the two searches.
+use Prim.Native.Nat.{ℕ}
+use mathlib.Core.Path.{ap, _∙_}
 use borrow.Author.Needs.{needs}
-use Rattle.paths.specs.Positions.{nextComponent}
+use Rattle.units.specs.Units.{backslash}
+use Rattle.paths.specs.Positions.{placeOf, nextComponent}
+use Rattle.paths.specs.declared.Part.{Part}
 use Rattle.paths.proofs.next_component.Statement.{statement}
 use Rattle.paths.proofs.next_component.Tie as tie
 
@@ -12,7 +16,12 @@ find-sign-requires c κs = search needs
 
 returns : tie.Need-returns
 unfolding nextComponent
-returns c = cc
+returns c =
+    let path = c .before .before .before .args .path .now in
+    let start = c .before .skip-sign in
+    let to : ℕ → Part = λ e. record { start = start .result; end = e } in
+    let from : ℕ → Part = λ s. record { start = s; end = placeOf backslash path s } in
+    ap to (c .find-sign .ensures) ∙ ap from (start .ensures)
 
 pub next-component-spec : {M : Type 1} → statement M
 next-component-spec = tie.close (tie.spec skip-sign-requires find-sign-requires returns)
