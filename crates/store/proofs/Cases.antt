@@ -1,7 +1,7 @@
 -- The worked cases hold, by evaluation of the definitions.
 use mathlib.Core.Path.{refl}
 use Rattle.store.specs.Evaluate.{storeRun, modelRun}
-use Rattle.store.specs.Cases.{seen, attributesOf, sevenCounts, observed, expected, Hold, workedCases, furtherCases, stepCases}
+use Rattle.store.specs.Cases.{seen, attributesOf, sevenCounts, observed, expected, Hold, workedCases, furtherCases, stepCases, namesWith, statusOf, limited, LimitsHold}
 
 pub worked-cases : Hold workedCases
 unfolding storeRun modelRun seen attributesOf sevenCounts observed expected
@@ -14,3 +14,7 @@ further-cases = refl
 pub step-cases : Hold stepCases
 unfolding storeRun modelRun seen attributesOf sevenCounts observed expected
 step-cases = refl
+
+pub limit-cases : LimitsHold
+unfolding storeRun namesWith statusOf limited
+limit-cases = refl

@@ -1,19 +1,24 @@
 -- Worked cases (document 01, "Bench cases"): what the object store and the model answer, and what stands in the tables
 -- then. One table, one statement; proofs/Cases.antt proves it by evaluation.
-use Prim.Native.Nat.{ℕ}
+use Prim.Native.Nat.{ℕ, _-_}
 use mathlib.Core.Path.{_≡_}
 use mathlib.Core.Bool.{Bool, true, false}
-use mathlib.Core.List.{List, [], _∷_, map}
+use mathlib.Core.List.{List, [], _∷_, _++_, map}
 use mathlib.Core.Option.{Option, none, some}
 use lib.ListN.{replicate}
-use Rattle.lists.specs.Lists.{keep}
-use Rattle.records.specs.Sizes.{accounts}
-use Rattle.records.specs.Constants.{allAccess}
-use Rattle.records.specs.Numbers.{outcomeNumbers}
-use Rattle.records.specs.Slots.{fileUsed, streamUsed}
+use Rattle.lists.specs.Lists.{keep, padded}
+use Rattle.records.specs.Sizes.{accounts, fileNameLimit, streamNameLimit, fileSlots, linkSlots, streamSlots}
+use Rattle.records.specs.Constants.{allAccess, directory}
+use Rattle.records.specs.Numbers.{outcomeNumbers, statusNumber}
+use Rattle.records.specs.Slots.{root, zeroFile, zeroLink, fileUsed, streamUsed}
+use Rattle.records.specs.Namespace.{BareStream, zeroBare, Namespace}
+use Rattle.records.specs.Checked.{Checked, refused, passed}
+use Rattle.records.specs.declared.FileType.the-variants.{Directory}
 use Rattle.records.specs.declared.File.{File}
+use Rattle.records.specs.declared.Link.{Link}
 use Rattle.records.specs.declared.Stream.{Stream}
 use Rattle.records.specs.declared.ShareCounts.{ShareCounts}
+use Rattle.store.specs.Complete.{Decision, decide}
 use Rattle.store.specs.Model.{Model, Reply}
 use Rattle.store.specs.Calls.{Call, opens, closes, setsReadOnly, Tables, Run, run, storeStep, modelStep}
 use Rattle.store.specs.Evaluate.{storeRun, modelRun}
@@ -279,3 +284,83 @@ stepCases =
     ∷ refusedOnG (asks 1 3 4 0 a:log) 0xC0000034
     ∷ refusedAfter (asksWith 2 0x80 7 2 0 a ∷ []) (asks 1 7 4 0 a) 0xC0000022 (0x10 ∷ 0x22 ∷ []) (none7 ∷ none7 ∷ [])
     ∷ []
+
+-- step 12 by itself, since tables so full lie far from any short sequence: how many slots of each table are used, whether
+-- the opens have room, the next handle, and what an open of the path is answered then (0: accepted)
+pub record LimitCase : Type 0 where
+  pub files : ℕ
+  pub links : ℕ
+  pub streams : ℕ
+  pub room : Bool
+  pub next : ℕ
+  pub disposition : ℕ
+  pub path : List ℕ
+  pub status : ℕ
+
+-- used slots like the root's, and links of another directory
+unfoldable pub namesWith : ℕ → ℕ → ℕ → Namespace
+namesWith files links streams =
+    let file : File = record { «file_type» = Directory; attributes = directory; masks = fullMasks } in
+    let link : Link = record { parent = record { 0 = 1 }; name = padded fileNameLimit a; file = record { 0 = 1 } } in
+    let stream : BareStream = record { file = root; streamType = Directory; name = replicate streamNameLimit 0 } in
+    record {
+      readOnly = false;
+      files = replicate files file ++ replicate (fileSlots - files) zeroFile;
+      links = replicate links link ++ replicate (linkSlots - links) zeroLink;
+      streams = replicate streams stream ++ replicate (streamSlots - streams) zeroBare;
+    }
+
+unfoldable pub statusOf : Checked Decision → ℕ
+statusOf (refused s) = statusNumber s
+statusOf (passed d) = 0
+
+unfoldable pub limited : LimitCase → ℕ
+limited c =
+    statusOf
+    (decide
+    (record { conflicts = λ s granted share. false; fileOpen = λ f. false; room = c .room; next = c .next })
+    (namesWith (c .files) (c .links) (c .streams))
+    (record {
+      account = 0;
+      access = 1;
+      share = 0;
+      disposition = c .disposition;
+      options = 0;
+      attributes = 0;
+      fold = false;
+    })
+    (c .path))
+
+abbrev pub limitCase : ℕ → ℕ → ℕ → Bool → ℕ → ℕ → List ℕ → ℕ → LimitCase
+limitCase files links streams room next disposition path status =
+    record {
+      files = files;
+      links = links;
+      streams = streams;
+      room = room;
+      next = next;
+      disposition = disposition;
+      path = path;
+      status = status;
+    }
+
+abbrev pub limitCases : List LimitCase
+limitCases =
+    -- a full table of files, links or streams comes before the opens' slots, and those before the handles
+    limitCase 128 0 1 false 18446744073709551615 2 a 0xC000007F
+    ∷ limitCase 1 192 1 false 18446744073709551615 2 a 0xC000007F
+    ∷ limitCase 1 0 256 false 18446744073709551615 2 a 0xC000007F
+    ∷ limitCase 1 0 1 false 18446744073709551615 2 a 0xC000011F
+    ∷ limitCase 1 0 1 true 18446744073709551615 2 a 0xC000009A
+    ∷ limitCase 1 0 1 true 18446744073709551614 2 a 0
+    -- a new file that is named with a stream takes two stream slots
+    ∷ limitCase 1 0 255 true 1 2 a 0
+    ∷ limitCase 1 0 255 true 1 2 a:log 0xC000007F
+    ∷ limitCase 1 0 254 true 1 2 a:log 0
+    -- an open of what is there adds nothing but itself
+    ∷ limitCase 128 192 256 false 1 1 [] 0xC000011F
+    ∷ limitCase 128 192 256 true 1 1 [] 0
+    ∷ []
+
+abbrev pub LimitsHold : Type 0
+LimitsHold = map limited limitCases ≡ map (λ c. c .status) limitCases
