@@ -1,2 +1,3 @@
--- Laws that the proofs of the walk cite.
+-- Laws that the proofs of the searches and of the walk cite.
+pub mod Searching
 pub mod Walking

@@ -1,38 +1,72 @@
 -- The walk at a place of the path before the last component: at its end, at a component that leads into a directory, and
 -- at one that does not.
-use Prim.Native.Nat.{ℕ}
-use mathlib.Core.Path.{_≡_, refl}
-use mathlib.Core.Bool.{Bool, true, false}
+use Prim.Native.Nat.{ℕ, _≤_, _<_}
+use mathlib.Core.Path.{_≡_, refl, sym, ap, _∙_}
+use mathlib.Core.Bool.{Bool, false, cond}
 use mathlib.Core.List.{List, [], _∷_}
 use mathlib.Core.Option.{Option, none, some}
-use lib.ListN.{drop}
-use Rattle.records.specs.Slots.{root, isDirectory}
+use native.Mathlib.Omega.{arith}
+use lib.ListN.{length, getD, drop, List·getD-eq-default}
+use Rattle.lists.proofs.Default.{getD-default}
+use Rattle.records.specs.Sizes.{fileSlots, linkSlots}
+use Rattle.records.specs.Slots.{root, zeroFile, zeroLink, isDirectory}
 use Rattle.tables.specs.Tables.{fileAt, linkAt}
-use Rattle.records.specs.Namespace.{Namespace}
+use Rattle.records.specs.Namespace.{Namespace, namespace}
 use Rattle.records.specs.Checked.{Checked, refused, passed, _>>=_}
+use Rattle.records.specs.declared.Status.{Status}
 use Rattle.records.specs.declared.Status.the-variants.{ObjectPathNotFound}
 use Rattle.records.specs.declared.FileNo.{FileNo}
 use Rattle.records.specs.declared.LinkNo.{LinkNo}
+use Rattle.records.specs.declared.File.{File}
+use Rattle.records.specs.declared.Link.{Link}
+use Rattle.records.specs.declared.Volume.{Volume}
 use Rattle.paths.specs.Paths.{Leaf, components}
 use Rattle.paths.specs.Positions.{nextComponent, partOf}
 use Rattle.paths.proofs.Places.{next-found, next-none}
 use Rattle.lookup.specs.Lookup.{findLink, stepInto, descend, Place, found, missing, placeOf, locateLeaf, locate}
-use Rattle.lookup.specs.Answers.{foundLink, lastStep, walkEnds, walkedFrom}
-use Rattle.lookup.specs.declared.FoundLink.the-variants.{At, Missing}
+use Rattle.lookup.specs.Answers.{lastStep, walkEnds, walkedFrom}
+use Rattle.lookup.specs.declared.walk.FoundFile.{FoundFile}
+use Rattle.lookup.specs.declared.walk.FoundFile.the-variants.{At, Missing}
 use Rattle.lookup.specs.declared.Walked.{Walked}
 use Rattle.lookup.specs.declared.Walked.the-variants as End
 
--- what the code's answer says of the definition's
+-- what the search for a component before the last finds: its link's file
 
-pub is-found : (o : Option LinkNo) (l : LinkNo) → foundLink o ≡ At l → o ≡ some l
-unfolding foundLink
-is-found none l e = cc
-is-found (some k) l e = cc
+unfoldable pub foundFile : List Link → Option LinkNo → FoundFile
+foundFile ls none = Missing
+foundFile ls (some l) = At (linkAt ls l .file)
 
-pub not-found : (o : Option LinkNo) → foundLink o ≡ Missing → o ≡ none
-unfolding foundLink
-not-found none e = refl
-not-found (some k) e = cc
+-- the definition's step from there
+
+module _ (ns : Namespace) where
+  pub step-lost : (o : Option LinkNo) → foundFile (ns .links) o ≡ Missing → stepInto ns o ≡ refused ObjectPathNotFound
+  unfolding foundFile stepInto
+  step-lost none e = refl
+  step-lost (some l) e = cc
+
+  pub step-found : (o : Option LinkNo) (next : FileNo) {b : Bool} → foundFile (ns .links) o ≡ At next → isDirectory (fileAt (ns .files) next .«file_type») ≡ b
+      → stepInto ns o ≡ cond b (passed next) (refused ObjectPathNotFound)
+  unfolding foundFile stepInto
+  step-found none next e kind = cc
+  step-found (some l) next e kind = let q : linkAt (ns .links) l .file ≡ next = cc in rw (q, kind)
+
+-- what the code reads in the tables: past the end of the files is no directory
+
+module _ (v : Volume) where
+  pub file-read : length (v .links) ≡ linkSlots → (i : ℕ) (d : Link) → i < linkSlots
+      → foundFile (namespace v .links) (some (record { 0 = i })) ≡ At (getD (v .links) i d .file)
+  unfolding foundFile linkAt namespace
+  file-read full i d below = ap (λ (l : Link). At (l .file)) (getD-default (v .links) i zeroLink d (omega arith))
+
+  module _ (full : length (v .files) ≡ fileSlots) (f : FileNo) where
+    pub kind-read : (d : File) {b : Bool} → f .0 < fileSlots → b ≡ isDirectory (getD (v .files) (f .0) d .«file_type»)
+        → isDirectory (fileAt (namespace v .files) f .«file_type») ≡ b
+    unfolding fileAt namespace
+    kind-read d below judged = ap (λ (g : File). isDirectory (g .«file_type»)) (getD-default (v .files) (f .0) zeroFile d (omega arith)) ∙ sym judged
+
+    pub kind-past : fileSlots ≤ f .0 → isDirectory (fileAt (namespace v .files) f .«file_type») ≡ false
+    unfolding fileAt isDirectory namespace
+    kind-past past = ap (λ (g : File). isDirectory (g .«file_type»)) (List·getD-eq-default (v .files) zeroFile (omega arith))
 
 -- the walk from a directory, by what is left of the components
 
@@ -42,20 +76,14 @@ module _ (ns : Namespace) (fold : Bool) (dir : FileNo) (name : List ℕ) where
   ends = refl
 
   module _ (component : List ℕ) (rest : List (List ℕ)) where
-    lost : findLink ns fold dir component ≡ none → walkedFrom ns fold dir (component ∷ rest) name ≡ End.Refused ObjectPathNotFound
-    unfolding walkedFrom walkEnds descend stepInto _>>=_
-    lost e = rw (e, descend)
+    stops : (s : Status) → stepInto ns (findLink ns fold dir component) ≡ refused s → walkedFrom ns fold dir (component ∷ rest) name ≡ End.Refused s
+    unfolding walkedFrom walkEnds descend _>>=_
+    stops s e = rw (e, descend)
 
-    module _ (l : LinkNo) (found : findLink ns fold dir component ≡ some l) where
-      into : isDirectory (fileAt (ns .files) (linkAt (ns .links) l .file) .«file_type») ≡ true
-          → walkedFrom ns fold dir (component ∷ rest) name ≡ walkedFrom ns fold (linkAt (ns .links) l .file) rest name
-      unfolding walkedFrom walkEnds descend stepInto _>>=_
-      into e = rw (found, e)
-
-      barred : isDirectory (fileAt (ns .files) (linkAt (ns .links) l .file) .«file_type») ≡ false
-          → walkedFrom ns fold dir (component ∷ rest) name ≡ End.Refused ObjectPathNotFound
-      unfolding walkedFrom walkEnds descend stepInto _>>=_
-      barred e = rw (found, e)
+    goes-on : (next : FileNo) → stepInto ns (findLink ns fold dir component) ≡ passed next
+        → walkedFrom ns fold dir (component ∷ rest) name ≡ walkedFrom ns fold next rest name
+    unfolding walkedFrom walkEnds descend _>>=_
+    goes-on next e = rw e
 
 -- the same by places: `parents` is the path up to its last component, and the walk has come to `at`
 
@@ -73,17 +101,11 @@ module _ (ns : Namespace) (fold : Bool) (dir : FileNo) (name parents : List ℕ)
     abbrev rest : List (List ℕ)
     rest = components (drop (nextComponent parents at .end) parents)
 
-    pub walk-lost : findLink ns fold dir component ≡ none → walkLeft ≡ End.Refused ObjectPathNotFound
-    walk-lost e = rw (next-found parents at more) (lost ns fold dir name component rest e)
+    pub walk-stops : (s : Status) → stepInto ns (findLink ns fold dir component) ≡ refused s → walkLeft ≡ End.Refused s
+    walk-stops s e = rw (next-found parents at more) (stops ns fold dir name component rest s e)
 
-    module _ (l : LinkNo) (found : findLink ns fold dir component ≡ some l) where
-      pub walk-into : isDirectory (fileAt (ns .files) (linkAt (ns .links) l .file) .«file_type») ≡ true
-          → walkLeft ≡ walkedFrom ns fold (linkAt (ns .links) l .file) rest name
-      walk-into e = rw (next-found parents at more) (into ns fold dir name component rest l found e)
-
-      pub walk-barred : isDirectory (fileAt (ns .files) (linkAt (ns .links) l .file) .«file_type») ≡ false
-          → walkLeft ≡ End.Refused ObjectPathNotFound
-      walk-barred e = rw (next-found parents at more) (barred ns fold dir name component rest l found e)
+    pub walk-goes-on : (next : FileNo) → stepInto ns (findLink ns fold dir component) ≡ passed next → walkLeft ≡ walkedFrom ns fold next rest name
+    walk-goes-on next e = rw (next-found parents at more) (goes-on ns fold dir name component rest next e)
 
 -- where the walk leads
 

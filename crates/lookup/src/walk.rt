@@ -1,8 +1,6 @@
 // The walk through a path's components (step 6).
-use crate::FoundLink;
 use crate::Located;
 use crate::Walked;
-use crate::find::find_link;
 use crate::find::link_matches;
 use paths::LeafParts;
 use paths::ParsedPath;
@@ -10,22 +8,37 @@ use paths::Part;
 use paths::next_component;
 use paths::part_of;
 use paths::units_before;
+use records::File;
 use records::FileNo;
 use records::LinkNo;
 use records::Status;
 use records::Volume;
+use records::sizes::FILE_SLOTS;
 use records::sizes::LINK_SLOTS;
 use records::slots::is_directory;
-use tables::file_at;
 use tables::link_at;
 ghost use mathlib.Core.Path.{_≡_};
-ghost use Rattle.records.specs.Slots.{root};
+ghost use Rattle.records.specs.Slots.{root, isDirectory};
 ghost use Rattle.records.specs.Namespace.{namespace};
 ghost use Rattle.paths.specs.Positions.{partOf, parentsOf, asLeaf};
 ghost use Rattle.lookup.specs.Lookup.{locate};
 ghost use Rattle.lookup.specs.Answers.{walkedFrom, asPlace, pathTo, leafNames, locateParsed};
 
+// What the search for a component before the last finds.
+enum FoundFile {
+    At(FileNo),
+    Missing,
+}
+
+fn file_is_directory(f: File) -> bool
+    ensures { λ r. ⌜ r ≡ isDirectory (f .«file_type») ⌝ }
+{
+    let file_type = f.file_type;
+    is_directory(file_type)
+}
+
 // From the root through the components before `last`, each a directory, to the link that the directory has for `last`.
+// The tables are indexed in place, so that no turn copies the volume. A file number past its table is no directory.
 pub fn walk_path(v: Volume, path: &[u16], last: Part, fold: bool) -> Walked
     ensures { λ r. ⌜ r ≡ walkedFrom (namespace v) fold root (parentsOf (now (path .entry)) last) (partOf (now (path .entry)) last) ⌝ }
 {
@@ -36,23 +49,29 @@ pub fn walk_path(v: Volume, path: &[u16], last: Part, fold: bool) -> Walked
     'components: loop {
         let part = next_component(parents, at);
         if part.start == part.end {
-            let mut i: usize = 0;
-            while i < LINK_SLOTS {
-                let l = v.links[i];
-                if link_matches(l, dir, name, fold) {
+            for i in 0..LINK_SLOTS {
+                if link_matches(v.links[i], dir, name, fold) {
                     let found = i as u16;
                     break 'components Walked::Link(LinkNo(found));
                 }
-                i += 1;
             }
             break 'components Walked::Missing(dir);
         }
-        let FoundLink::At(link) = find_link(v, dir, part_of(parents, part), fold) else {
+        let component = part_of(parents, part);
+        let mut found = FoundFile::Missing;
+        for i in 0..LINK_SLOTS {
+            let l = v.links[i];
+            if link_matches(l, dir, component, fold) {
+                let file = l.file;
+                found = FoundFile::At(file);
+                break;
+            }
+        }
+        let FoundFile::At(next) = found else {
             return Walked::Refused(Status::ObjectPathNotFound);
         };
-        let next = link_at(v, link).file;
-        let next_type = file_at(v, next).file_type;
-        if !is_directory(next_type) {
+        let n = next.0 as usize;
+        if n >= FILE_SLOTS || !file_is_directory(v.files[n]) {
             break 'components Walked::Refused(Status::ObjectPathNotFound);
         }
         dir = next;

@@ -1,32 +1,21 @@
 -- `lookup::find::find_link` meets its contract. The invariant: the answer is what the rest of the table gives.
-use Prim.Native.Nat.{ℕ, _-_}
-use mathlib.Core.Path.{_≡_, refl, sym, _∙_}
-use mathlib.Core.Option.{Option}
-use native.Mathlib.Omega.{arith}
+use Prim.Native.Nat.{_-_}
+use mathlib.Core.Path.{sym, ap}
 use borrow.Author.Needs.{needs}
-use Rattle.lists.specs.Lists.{first}
-use Rattle.lists.proofs.Lookups.{answerFrom, answer-here, answer-next, answer-none}
-use Rattle.records.specs.Namespace.{namespace}
 use Rattle.records.proofs.Lengths.{links-length}
-use Rattle.lookup.specs.Lookup.{linkMatches, linkNumber, findLink}
 use Rattle.lookup.specs.Answers.{foundLink}
-use Rattle.lookup.specs.declared.FoundLink.{FoundLink}
+use Rattle.lookup.proofs.Searching.{SearchedTo, search-begins, search-here, search-next, search-ends}
 use Rattle.lookup.proofs.find.find_link.Statement.{statement}
 use Rattle.lookup.proofs.find.find_link.Tie as tie
 
-abbrev found : Option ℕ → FoundLink
-found n = foundLink (linkNumber n)
-
 abbrev Inv-loop : tie.InvT-loop
-Inv-loop dir name fold v i₀ i =
-    foundLink (findLink (namespace v) fold dir name) ≡ answerFrom found (linkMatches fold dir name) (v .links) i
+Inv-loop dir name fold v i₀ i = SearchedTo v fold dir name i
 
 abbrev μ-loop : tie.MeasureT-loop
 μ-loop dir name fold v i₀ i = 192 - i
 
 loop-holds : tie.Need-loop-holds Inv-loop μ-loop
-unfolding findLink first namespace
-loop-holds c = refl
+loop-holds c = search-begins _ _ _ _
 
 mul-l : tie.Need-mul-l Inv-loop μ-loop
 mul-l c = search needs
@@ -41,15 +30,14 @@ cast-link : tie.Need-cast-link Inv-loop μ-loop
 cast-link c = search needs
 
 returns : tie.Need-returns Inv-loop μ-loop
-unfolding foundLink linkNumber
+unfolding foundLink
 returns c =
     let u = c .before in
-    let l = u .before .before .before in
+    let m = u .before .before in
+    let l = m .before in
     let a = l .before .before in
-    let h = links-length (a .args .t1) _ (a .good .0) in
-    sym
-    (l .loop .inv
-    ∙ answer-here found (linkMatches (a .args .fold) (a .args .dir) (a .args .name .now)) (a .args .t1 .links) (l .loop .i) _ (omega arith) (u .link-matches .ensures) (c .if1 .taken))
+    let full = links-length (a .args .t1) _ (a .good .0) in
+    sym (ap foundLink (search-here _ _ _ _ full _ (l .loop .inv) _ (m .loop-test .taken) (u .link-matches .ensures) (c .if1 .taken)))
 
 add-i : tie.Need-add-i Inv-loop μ-loop
 add-i c = search needs
@@ -60,19 +48,19 @@ loop-less c = search needs
 loop-again : tie.Need-loop-again Inv-loop μ-loop
 loop-again c =
     let u = c .before in
-    let l = u .before .before .before in
+    let m = u .before .before in
+    let l = m .before in
     let a = l .before .before in
-    let h = links-length (a .args .t1) _ (a .good .0) in
-    l .loop .inv
-    ∙ answer-next found (linkMatches (a .args .fold) (a .args .dir) (a .args .name .now)) (a .args .t1 .links) (l .loop .i) _ (omega arith) (u .link-matches .ensures) (c .if1 .left)
+    let full = links-length (a .args .t1) _ (a .good .0) in
+    search-next _ _ _ _ full _ (l .loop .inv) _ (m .loop-test .taken) (u .link-matches .ensures) (c .if1 .left)
 
 returns-2 : tie.Need-returns-2 Inv-loop μ-loop
-unfolding foundLink linkNumber
+unfolding foundLink
 returns-2 c =
     let l = c .before in
     let a = l .before .before in
-    let h = links-length (a .args .t1) _ (a .good .0) in
-    sym (l .loop .inv ∙ answer-none found (linkMatches (a .args .fold) (a .args .dir) (a .args .name .now)) (a .args .t1 .links) (l .loop .i) (omega arith))
+    let full = links-length (a .args .t1) _ (a .good .0) in
+    sym (ap foundLink (search-ends _ _ _ _ full _ (l .loop .inv) (c .loop-test .left)))
 
 pub find-link-spec : {M : Type 1} → statement M
 find-link-spec =

@@ -1,46 +1,41 @@
 -- `lookup::walk::walk_path` meets its contract. The invariant of the loop over components: the answer is that from the
--- present directory through what is left of the path. That of the search: it is what the rest of the links gives.
+-- present directory through what is left of the path. That of each search: what it finds is what the rest of the links
+-- gives.
 use Prim.Native.Nat.{ℕ, _-_}
 use mathlib.Core.Path.{_≡_, refl, sym, ap, subst, subst⁻¹, _∙_}
 use mathlib.Core.List.{List}
-use mathlib.Core.Option.{Option}
+use mathlib.Core.Logic.{⊎-elim}
 use native.Mathlib.Omega.{arith}
 use lib.ListN.{length, drop}
 use borrow.Author.Needs.{needs}
 use borrow.Author.Tests.{not-true, not-false}
-use Rattle.lists.specs.Lists.{first}
-use Rattle.lists.proofs.Lookups.{answerFrom, answer-here, answer-next, answer-none}
-use Rattle.records.specs.Slots.{root, isDirectory}
-use Rattle.tables.specs.Tables.{fileAt, linkAt}
+use Rattle.records.specs.Sizes.{fileSlots, linkSlots}
+use Rattle.records.specs.Slots.{root}
 use Rattle.records.specs.Namespace.{namespace}
-use Rattle.records.specs.declared.FileNo.{FileNo}
-use Rattle.records.specs.declared.File.{File}
-use Rattle.records.specs.declared.Link.{Link}
-use Rattle.records.proofs.Lengths.{links-length}
+use Rattle.records.proofs.Lengths.{files-length, links-length}
 use Rattle.paths.specs.Paths.{components}
 use Rattle.paths.specs.Positions.{partOf, parentsOf, nextComponent}
 use Rattle.paths.specs.declared.Part.{Part}
 use Rattle.paths.proofs.Places.{next-order, next-within}
-use Rattle.lookup.specs.Lookup.{linkMatches, linkNumber, findLink}
-use Rattle.lookup.specs.Answers.{foundLink, lastStep, walkedFrom}
-use Rattle.lookup.specs.declared.Walked.{Walked}
-use Rattle.lookup.proofs.Walking.{is-found, not-found, walkLeft, walk-ends, walk-lost, walk-into, walk-barred}
+use Rattle.lookup.specs.Lookup.{findLink}
+use Rattle.lookup.specs.Answers.{lastStep, walkedFrom}
+use Rattle.lookup.specs.declared.walk.FoundFile.the-variants.{Missing}
+use Rattle.lookup.proofs.Searching.{SearchedTo, search-begins, search-here, search-next, search-ends}
+use Rattle.lookup.proofs.Walking.{foundFile, file-read, step-lost, step-found, kind-read, kind-past, walkLeft, walk-ends, walk-stops, walk-goes-on}
 use Rattle.lookup.proofs.walk.walk_path.Statement.{statement}
 use Rattle.lookup.proofs.walk.walk_path.Tie as tie
 
-abbrev endsAt : FileNo → Option ℕ → Walked
-endsAt dir n = lastStep dir (linkNumber n)
-
-abbrev Empty : Part → Type 0
-Empty q = q .start ≡ q .end
-
 abbrev Inv-loop : tie.InvT-loop
-Inv-loop path fold v name dir at i₀ i =
-    lastStep dir (findLink (namespace v) fold dir name)
-    ≡ answerFrom (endsAt dir) (linkMatches fold dir name) (v .links) i
+Inv-loop path fold v name dir at i₀ i = SearchedTo v fold dir name i
 
 abbrev μ-loop : tie.MeasureT-loop
 μ-loop path fold v name dir at i₀ i = 192 - i
+
+abbrev Inv-loop2 : tie.InvT-loop2
+Inv-loop2 path fold v parents name dir at part component found₀ i₀ found i = (found ≡ Missing) × SearchedTo v fold dir component i
+
+abbrev μ-loop2 : tie.MeasureT-loop2
+μ-loop2 path fold v parents name dir at part component found₀ i₀ found i = 192 - i
 
 abbrev Inv-components : tie.InvT-components
 Inv-components path fold v parents name dir₀ at₀ dir at =
@@ -50,8 +45,11 @@ Inv-components path fold v parents name dir₀ at₀ dir at =
 abbrev μ-components : tie.MeasureT-components
 μ-components path fold v parents name dir₀ at₀ dir at = length parents - at
 
+abbrev Empty : Part → Type 0
+Empty q = q .start ≡ q .end
+
 -- what is left at the head of the loop over components
-whole : (p : tie.At-components Inv-loop μ-loop Inv-components μ-components)
+whole : (p : tie.At-components Inv-loop μ-loop Inv-loop2 μ-loop2 Inv-components μ-components)
     → let s = p .before .before .before .before .args in
     walkedFrom (namespace (s .t1)) (s .fold) root (parentsOf (s .path .now) (s .last)) (partOf (s .path .now) (s .last))
     ≡ walkLeft (namespace (s .t1)) (s .fold) (p .components .dir) (p .before .part-of .result .now) (p .before .before .units-before .result .now) (p .components .at)
@@ -64,7 +62,7 @@ whole p =
     ∙ p .components .inv
 
 -- at the end of the components before the last
-to-last : (t : tie.Then1 Inv-loop μ-loop Inv-components μ-components)
+to-last : (t : tie.Then1 Inv-loop μ-loop Inv-loop2 μ-loop2 Inv-components μ-components)
     → let p = t .before .before .before in
     let s = p .before .before .before .before .args in
     walkedFrom (namespace (s .t1)) (s .fold) root (parentsOf (s .path .now) (s .last)) (partOf (s .path .now) (s .last))
@@ -72,123 +70,177 @@ to-last : (t : tie.Then1 Inv-loop μ-loop Inv-components μ-components)
 to-last t =
     let n = t .before .before in
     let p = n .before in
-    let s = p .before .before .before .before .args in
-    whole p
-    ∙ walk-ends (namespace (s .t1)) (s .fold) (p .components .dir) (p .before .part-of .result .now) (p .before .before .units-before .result .now) (p .components .at) (subst Empty (n .next-component .ensures) (t .if1 .taken))
+    whole p ∙ walk-ends _ _ _ _ _ _ (subst Empty (n .next-component .ensures) (t .if1 .taken))
 
 -- at a component before the last
-more : (e : tie.Else1 Inv-loop μ-loop Inv-components μ-components)
+more : (e : tie.Else1 Inv-loop μ-loop Inv-loop2 μ-loop2 Inv-components μ-components)
     → let p = e .before .before .before in
     let part = nextComponent (p .before .before .units-before .result .now) (p .components .at) in
     part .start ≡ part .end
     → ⊥
 more e z = e .if1 .left (subst⁻¹ Empty (e .before .before .next-component .ensures) z)
 
-searched : (f : tie.After-find-link Inv-loop μ-loop Inv-components μ-components)
-    → let p = f .before .before .before .before .before in
+links-full : (a : tie.Start Inv-loop μ-loop Inv-loop2 μ-loop2 Inv-components μ-components) → length (a .args .t1 .links) ≡ linkSlots
+links-full a = links-length (a .args .t1) _ (a .good .0)
+
+files-full : (a : tie.Start Inv-loop μ-loop Inv-loop2 μ-loop2 Inv-components μ-components) → length (a .args .t1 .files) ≡ fileSlots
+files-full a = files-length (a .args .t1) _ (a .good .0)
+
+-- what the search for that component found
+found : (j : tie.Left-loop2 Inv-loop μ-loop Inv-loop2 μ-loop2 Inv-components μ-components)
+    → let p = j .before .before .before .before .before .before in
     let s = p .before .before .before .before .args in
     let parents = p .before .before .units-before .result .now in
-    f .find-link .result ≡ foundLink (findLink (namespace (s .t1)) (s .fold) (p .components .dir) (partOf parents (nextComponent parents (p .components .at))))
-searched f =
-    let n = f .before .before .before .before in
+    foundFile (namespace (s .t1) .links) (findLink (namespace (s .t1)) (s .fold) (p .components .dir) (partOf parents (nextComponent parents (p .components .at))))
+    ≡ j .loop2-test .found
+unfolding foundFile
+found j =
+    let l = j .before in
+    let q = l .before in
+    let n = q .before .before .before in
     let p = n .before in
-    let s = p .before .before .before .before .args in
-    f .find-link .ensures
-    ∙ ap (λ (us : List ℕ). foundLink (findLink (namespace (s .t1)) (s .fold) (p .components .dir) us))
-    (f .before .part-of2 .ensures ∙ ap (partOf (p .before .before .units-before .result .now)) (n .next-component .ensures))
+    let a = p .before .before .before .before in
+    let s = a .args in
+    let parents = p .before .before .units-before .result .now in
+    let full = links-full a in
+    ap (λ (us : List ℕ). foundFile (namespace (s .t1) .links) (findLink (namespace (s .t1)) (s .fold) (p .components .dir) us))
+    (sym (q .part-of2 .ensures ∙ ap (partOf parents) (n .next-component .ensures)))
+    ∙ ⊎-elim
+    (λ w. ap (foundFile (namespace (s .t1) .links)) (search-ends _ _ _ _ full _ (l .loop2 .inv .1) (w .0 .left)) ∙ sym (w .1 ∙ l .loop2 .inv .0))
+    (λ w.
+    ap (foundFile (namespace (s .t1) .links)) (search-here _ _ _ _ full _ (l .loop2 .inv .1) _ (w .0 .taken) (w .2 .ensures) (w .3 .taken))
+    ∙ file-read (s .t1) full (l .loop2 .i) _ (w .0 .taken)
+    ∙ sym (w .5))
+    (j .loop2-test .came)
 
-judged : (d : tie.After-is-directory Inv-loop μ-loop Inv-components μ-components)
-    → let k = d .before .before .before .before .before in
-    let s = k .before .before .before .before .before .before .before .before .before .before .before .args in
-    d .is-directory .result ≡ isDirectory (fileAt (s .t1 .files) (linkAt (s .t1 .links) (k .link .given .0 .0) .file) .«file_type»)
-judged d =
-    let g = d .before in
-    let t = g .before .before in
-    let s = t .before .before .before .before .before .before .before .before .before .before .before .before .before .args in
-    d .is-directory .ensures
-    ∙ ap (λ (f : File). isDirectory (f .«file_type»)) (g .file-at .ensures ∙ ap (λ (l : Link). fileAt (s .t1 .files) (l .file)) (t .link-at .ensures))
-
-units-before-requires : tie.Need-units-before-requires Inv-loop μ-loop Inv-components μ-components
+units-before-requires :
+    tie.Need-units-before-requires Inv-loop μ-loop Inv-loop2 μ-loop2 Inv-components μ-components
 units-before-requires c κs = search needs
 
-part-of-requires : tie.Need-part-of-requires Inv-loop μ-loop Inv-components μ-components
+part-of-requires :
+    tie.Need-part-of-requires Inv-loop μ-loop Inv-loop2 μ-loop2 Inv-components μ-components
 part-of-requires c κs = search needs
 
-components-holds : tie.Need-components-holds Inv-loop μ-loop Inv-components μ-components
+components-holds :
+    tie.Need-components-holds Inv-loop μ-loop Inv-loop2 μ-loop2 Inv-components μ-components
 components-holds c = refl
 
 next-component-requires :
-    tie.Need-next-component-requires Inv-loop μ-loop Inv-components μ-components
+    tie.Need-next-component-requires Inv-loop μ-loop Inv-loop2 μ-loop2 Inv-components μ-components
 next-component-requires c κs = search needs
 
-loop-holds : tie.Need-loop-holds Inv-loop μ-loop Inv-components μ-components
-unfolding findLink first namespace
-loop-holds c = refl
+loop-holds : tie.Need-loop-holds Inv-loop μ-loop Inv-loop2 μ-loop2 Inv-components μ-components
+loop-holds c = search-begins _ _ _ _
 
-mul-l : tie.Need-mul-l Inv-loop μ-loop Inv-components μ-components
-mul-l c = search needs
+mul-link-matches :
+    tie.Need-mul-link-matches Inv-loop μ-loop Inv-loop2 μ-loop2 Inv-components μ-components
+mul-link-matches c = search needs
 
-element-copy-out-l : tie.Need-element-copy-out-l Inv-loop μ-loop Inv-components μ-components
-element-copy-out-l c = search needs
+element-copy-out-link-matches :
+    tie.Need-element-copy-out-link-matches
+    Inv-loop
+    μ-loop
+    Inv-loop2
+    μ-loop2
+    Inv-components
+    μ-components
+element-copy-out-link-matches c = search needs
 
-link-matches-requires : tie.Need-link-matches-requires Inv-loop μ-loop Inv-components μ-components
+link-matches-requires :
+    tie.Need-link-matches-requires Inv-loop μ-loop Inv-loop2 μ-loop2 Inv-components μ-components
 link-matches-requires c κs = search needs
 
-cast-found : tie.Need-cast-found Inv-loop μ-loop Inv-components μ-components
+cast-found : tie.Need-cast-found Inv-loop μ-loop Inv-loop2 μ-loop2 Inv-components μ-components
 cast-found c = search needs
 
-add-i : tie.Need-add-i Inv-loop μ-loop Inv-components μ-components
+add-i : tie.Need-add-i Inv-loop μ-loop Inv-loop2 μ-loop2 Inv-components μ-components
 add-i c = search needs
 
-loop-less : tie.Need-loop-less Inv-loop μ-loop Inv-components μ-components
+loop-less : tie.Need-loop-less Inv-loop μ-loop Inv-loop2 μ-loop2 Inv-components μ-components
 loop-less c = search needs
 
-loop-again : tie.Need-loop-again Inv-loop μ-loop Inv-components μ-components
+loop-again : tie.Need-loop-again Inv-loop μ-loop Inv-loop2 μ-loop2 Inv-components μ-components
 loop-again c =
     let t = c .before in
-    let l = t .before .before .before in
-    let p = l .before .before .before .before in
-    let a = p .before .before .before .before in
-    let s = a .args in
-    let h = links-length (s .t1) _ (a .good .0) in
-    l .loop .inv
-    ∙ answer-next (endsAt (p .components .dir)) (linkMatches (s .fold) (p .components .dir) (p .before .part-of .result .now)) (s .t1 .links) (l .loop .i) _ (omega arith) (t .link-matches .ensures) (c .if2 .left)
+    let m = t .before .before in
+    let l = m .before in
+    search-next _ _ _ _ (links-full (l .before .before .before .before .before .before .before .before)) _ (l .loop .inv) _ (m .loop-test .taken) (t .link-matches .ensures) (c .if2 .left)
 
-part-of-requires-2 : tie.Need-part-of-requires-2 Inv-loop μ-loop Inv-components μ-components
+part-of-requires-2 :
+    tie.Need-part-of-requires-2 Inv-loop μ-loop Inv-loop2 μ-loop2 Inv-components μ-components
 part-of-requires-2 c κs = search needs
 
-find-link-requires : tie.Need-find-link-requires Inv-loop μ-loop Inv-components μ-components
-find-link-requires c κs = search needs
+loop2-holds : tie.Need-loop2-holds Inv-loop μ-loop Inv-loop2 μ-loop2 Inv-components μ-components
+loop2-holds c = (refl, search-begins _ _ _ _)
 
-enum-known-link : tie.Need-enum-known-link Inv-loop μ-loop Inv-components μ-components
-enum-known-link c = search needs
+mul-l : tie.Need-mul-l Inv-loop μ-loop Inv-loop2 μ-loop2 Inv-components μ-components
+mul-l c = search needs
 
-enum-told : tie.Need-enum-told Inv-loop μ-loop Inv-components μ-components
+element-copy-out-l :
+    tie.Need-element-copy-out-l Inv-loop μ-loop Inv-loop2 μ-loop2 Inv-components μ-components
+element-copy-out-l c = search needs
+
+link-matches-requires-2 :
+    tie.Need-link-matches-requires-2 Inv-loop μ-loop Inv-loop2 μ-loop2 Inv-components μ-components
+link-matches-requires-2 c κs = search needs
+
+add-i-2 : tie.Need-add-i-2 Inv-loop μ-loop Inv-loop2 μ-loop2 Inv-components μ-components
+add-i-2 c = search needs
+
+loop2-less : tie.Need-loop2-less Inv-loop μ-loop Inv-loop2 μ-loop2 Inv-components μ-components
+loop2-less c = search needs
+
+loop2-again : tie.Need-loop2-again Inv-loop μ-loop Inv-loop2 μ-loop2 Inv-components μ-components
+loop2-again c =
+    let t = c .before in
+    let m = t .before .before in
+    let l = m .before in
+    (l .loop2 .inv .0, search-next _ _ _ _ (links-full (l .before .before .before .before .before .before .before .before .before)) _ (l .loop2 .inv .1) _ (m .loop2-test .taken) (t .link-matches2 .ensures) (c .if3 .left))
+
+enum-known-found :
+    tie.Need-enum-known-found Inv-loop μ-loop Inv-loop2 μ-loop2 Inv-components μ-components
+enum-known-found c = search needs
+
+enum-told : tie.Need-enum-told Inv-loop μ-loop Inv-loop2 μ-loop2 Inv-components μ-components
 enum-told c = search needs
 
-returns : tie.Need-returns Inv-loop μ-loop Inv-components μ-components
+returns : tie.Need-returns Inv-loop μ-loop Inv-loop2 μ-loop2 Inv-components μ-components
 returns c =
-    let f = c .before .before in
-    let e = f .before .before in
-    let p = e .before .before .before in
-    let s = p .before .before .before .before .args in
-    sym
-    (whole p
-    ∙ walk-lost (namespace (s .t1)) (s .fold) (p .components .dir) (p .before .part-of .result .now) (p .before .before .units-before .result .now) (p .components .at) (more e)
-    (not-found _ (sym (searched f) ∙ c .enum-told .given .1)))
+    let j = c .before .before in
+    let e = j .before .before .before in
+    sym (whole (e .before .before .before) ∙ walk-stops _ _ _ _ _ _ (more e) _ (step-lost _ _ (found j ∙ c .enum-told .given .1)))
 
-link-at-requires : tie.Need-link-at-requires Inv-loop μ-loop Inv-components μ-components
-link-at-requires c κs = search needs
+cast-n : tie.Need-cast-n Inv-loop μ-loop Inv-loop2 μ-loop2 Inv-components μ-components
+cast-n c = search needs
 
-file-at-requires : tie.Need-file-at-requires Inv-loop μ-loop Inv-components μ-components
-file-at-requires c κs = search needs
+mul-file-is-directory :
+    tie.Need-mul-file-is-directory Inv-loop μ-loop Inv-loop2 μ-loop2 Inv-components μ-components
+mul-file-is-directory c = search needs
 
-is-directory-requires : tie.Need-is-directory-requires Inv-loop μ-loop Inv-components μ-components
-is-directory-requires c κs = search needs
+element-copy-out-file-is-directory :
+    tie.Need-element-copy-out-file-is-directory
+    Inv-loop
+    μ-loop
+    Inv-loop2
+    μ-loop2
+    Inv-components
+    μ-components
+element-copy-out-file-is-directory c = search needs
 
-components-less : tie.Need-components-less Inv-loop μ-loop Inv-components μ-components
+file-is-directory-requires :
+    tie.Need-file-is-directory-requires
+    Inv-loop
+    μ-loop
+    Inv-loop2
+    μ-loop2
+    Inv-components
+    μ-components
+file-is-directory-requires c κs = search needs
+
+components-less :
+    tie.Need-components-less Inv-loop μ-loop Inv-loop2 μ-loop2 Inv-components μ-components
 components-less c =
-    let e = c .before .before .before .before .before .before .before .before .before .before in
+    let e = c .before .before .before .before .before .before .before .before .before .before .before in
     let n = e .before .before in
     let p = n .before in
     let parents = p .before .before .units-before .result .now in
@@ -196,67 +248,52 @@ components-less c =
     let ne : part .start ≡ part .end → ⊥ = more e in
     omega (arith, next-order parents (p .components .at), next-within parents (p .components .at) ne, ap (λ (q : Part). q .end) (n .next-component .ensures))
 
-components-again : tie.Need-components-again Inv-loop μ-loop Inv-components μ-components
-unfolding namespace
+components-again :
+    tie.Need-components-again Inv-loop μ-loop Inv-loop2 μ-loop2 Inv-components μ-components
 components-again c =
     let d = c .before in
-    let t = d .before .before .before in
-    let k = t .before .before in
-    let f = k .before .before in
-    let e = f .before .before in
+    let t = d .before .before in
+    let u = t .before .before .before in
+    let j = u .before .before in
+    let e = j .before .before .before in
     let n = e .before .before in
     let p = n .before in
     let s = p .before .before .before .before .args in
     let parents = p .before .before .units-before .result .now in
     let name = p .before .part-of .result .now in
     p .components .inv
-    ∙ walk-into (namespace (s .t1)) (s .fold) (p .components .dir) name parents (p .components .at) (more e)
-    _ (is-found _ _ (sym (searched f) ∙ k .link .given .1)) (sym (judged d) ∙ not-false _ (c .if3 .left))
-    ∙ ap (λ (l : Link). walkedFrom (namespace (s .t1)) (s .fold) (l .file) (components (drop (nextComponent parents (p .components .at) .end) parents)) name) (sym (t .link-at .ensures))
-    ∙ ap (λ (q : Part). walkedFrom (namespace (s .t1)) (s .fold) (t .link-at .result .file) (components (drop (q .end) parents)) name) (sym (n .next-component .ensures))
+    ∙ walk-goes-on _ _ _ _ _ _ (more e) _ (step-found _ _ _ (found j ∙ u .found .given .1) (kind-read _ (files-full (p .before .before .before .before)) _ _ (t .if4 .left) (d .file-is-directory .ensures) ∙ not-false _ (c .if5 .left)))
+    ∙ ap (λ (q : Part). walkedFrom (namespace (s .t1)) (s .fold) (u .found .given .0 .0) (components (drop (q .end) parents)) name) (sym (n .next-component .ensures))
 
-returns-2 : tie.Need-returns-2 Inv-loop μ-loop Inv-components μ-components
-unfolding lastStep linkNumber
+returns-2 : tie.Need-returns-2 Inv-loop μ-loop Inv-loop2 μ-loop2 Inv-components μ-components
+unfolding lastStep
 returns-2 c =
     let t = c .before in
-    let l = t .before .before .before in
+    let m = t .before .before in
+    let l = m .before in
     let p = l .before .before .before .before in
-    let a = p .before .before .before .before in
-    let s = a .args in
-    let h = links-length (s .t1) _ (a .good .0) in
     sym
     (to-last (l .before)
-    ∙ l .loop .inv
-    ∙ answer-here (endsAt (p .components .dir)) (linkMatches (s .fold) (p .components .dir) (p .before .part-of .result .now)) (s .t1 .links) (l .loop .i) _ (omega arith) (t .link-matches .ensures) (c .if2 .taken))
+    ∙ ap (lastStep (p .components .dir)) (search-here _ _ _ _ (links-full (p .before .before .before .before)) _ (l .loop .inv) _ (m .loop-test .taken) (t .link-matches .ensures) (c .if2 .taken)))
 
-returns-3 : tie.Need-returns-3 Inv-loop μ-loop Inv-components μ-components
-unfolding lastStep linkNumber
+returns-3 : tie.Need-returns-3 Inv-loop μ-loop Inv-loop2 μ-loop2 Inv-components μ-components
+unfolding lastStep
 returns-3 c =
     let l = c .before in
     let p = l .before .before .before .before in
-    let a = p .before .before .before .before in
-    let s = a .args in
-    let h = links-length (s .t1) _ (a .good .0) in
     sym
     (to-last (l .before)
-    ∙ l .loop .inv
-    ∙ answer-none (endsAt (p .components .dir)) (linkMatches (s .fold) (p .components .dir) (p .before .part-of .result .now)) (s .t1 .links) (l .loop .i) (omega arith))
+    ∙ ap (lastStep (p .components .dir)) (search-ends _ _ _ _ (links-full (p .before .before .before .before)) _ (l .loop .inv) (c .loop-test .left)))
 
-returns-4 : tie.Need-returns-4 Inv-loop μ-loop Inv-components μ-components
-unfolding namespace
+returns-4 : tie.Need-returns-4 Inv-loop μ-loop Inv-loop2 μ-loop2 Inv-components μ-components
 returns-4 c =
-    let d = c .before in
-    let g = d .before in
-    let t = g .before .before in
-    let k = t .before .before in
-    let f = k .before .before in
-    let e = f .before .before in
+    let u = c .before .before .before in
+    let j = u .before .before in
+    let e = j .before .before .before in
     let p = e .before .before .before in
-    let s = p .before .before .before .before .args in
-    sym
-    (whole p
-    ∙ walk-barred (namespace (s .t1)) (s .fold) (p .components .dir) (p .before .part-of .result .now) (p .before .before .units-before .result .now) (p .components .at) (more e)
-    _ (is-found _ _ (sym (searched f) ∙ k .link .given .1)) (sym (judged d) ∙ not-true _ (c .if3 .taken)))
+    let full = files-full (p .before .before .before .before) in
+    let kind = ⊎-elim (λ w. kind-past _ full _ (w .taken)) (λ w. kind-read _ full _ _ (w .0 .left) (w .2 .ensures) ∙ not-true _ (w .3 .taken)) (c .if4 .came) in
+    sym (whole p ∙ walk-stops _ _ _ _ _ _ (more e) _ (step-found _ _ _ (found j ∙ u .found .given .1) kind))
 
 pub walk-path-spec : {M : Type 1} → statement M
 walk-path-spec =
@@ -264,6 +301,8 @@ walk-path-spec =
     (tie.spec
     Inv-loop
     μ-loop
+    Inv-loop2
+    μ-loop2
     Inv-components
     μ-components
     units-before-requires
@@ -271,21 +310,28 @@ walk-path-spec =
     components-holds
     next-component-requires
     loop-holds
-    mul-l
-    element-copy-out-l
+    mul-link-matches
+    element-copy-out-link-matches
     link-matches-requires
     cast-found
     add-i
     loop-less
     loop-again
     part-of-requires-2
-    find-link-requires
-    enum-known-link
+    loop2-holds
+    mul-l
+    element-copy-out-l
+    link-matches-requires-2
+    add-i-2
+    loop2-less
+    loop2-again
+    enum-known-found
     enum-told
     returns
-    link-at-requires
-    file-at-requires
-    is-directory-requires
+    cast-n
+    mul-file-is-directory
+    element-copy-out-file-is-directory
+    file-is-directory-requires
     components-less
     components-again
     returns-2
