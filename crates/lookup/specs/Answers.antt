@@ -7,29 +7,16 @@ use Rattle.records.specs.Namespace.{Namespace}
 use Rattle.records.specs.Checked.{Checked, refused, passed, _>>=_}
 use Rattle.records.specs.declared.FileNo.{FileNo}
 use Rattle.records.specs.declared.LinkNo.{LinkNo}
-use Rattle.records.specs.declared.StreamNo.{StreamNo}
 use Rattle.paths.specs.Paths.{Path, Leaf}
 use Rattle.paths.specs.Positions.{asLeaf, asPath, parentsOf}
 use Rattle.paths.specs.declared.LeafParts.{LeafParts}
 use Rattle.paths.specs.declared.ParsedPath.{ParsedPath}
 use Rattle.paths.specs.declared.ParsedPath.the-variants.{Invalid, Root, Named}
 use Rattle.lookup.specs.Lookup.{findLink, descend, Place, found, missing, locate}
-use Rattle.lookup.specs.declared.FoundLink.{FoundLink}
-use Rattle.lookup.specs.declared.FoundLink.the-variants as Link
-use Rattle.lookup.specs.declared.FoundStream.{FoundStream}
-use Rattle.lookup.specs.declared.FoundStream.the-variants as Stream
 use Rattle.lookup.specs.declared.Located.{Located}
 use Rattle.lookup.specs.declared.Located.the-variants as Located
 use Rattle.lookup.specs.declared.Walked.{Walked}
 use Rattle.lookup.specs.declared.Walked.the-variants as End
-
-unfoldable pub foundLink : Option LinkNo → FoundLink
-foundLink none = Link.Missing
-foundLink (some l) = Link.At l
-
-unfoldable pub foundStream : Option StreamNo → FoundStream
-foundStream none = Stream.Missing
-foundStream (some s) = Stream.At s
 
 -- the walk's last step, in the directory that it came to
 unfoldable pub lastStep : FileNo → Option LinkNo → Walked

@@ -1,4 +1,4 @@
--- Step 6: from a path to its file, and from a file and a name to a stream. The lowest matching slot wins.
+-- Step 6: from a path to its file. The lowest matching slot wins.
 use Prim.Native.Nat.{ℕ}
 use mathlib.Core.Bool.{Bool, cond, _&&_}
 use mathlib.Core.List.{List, [], _∷_}
@@ -7,12 +7,11 @@ use lib.Dec.{eqb}
 use Rattle.lists.specs.Lists.{first}
 use Rattle.records.specs.Slots.{root, isDirectory}
 use Rattle.tables.specs.Tables.{fileAt, linkAt}
-use Rattle.records.specs.Namespace.{Namespace, BareStream, bareUsed}
+use Rattle.records.specs.Namespace.{Namespace}
 use Rattle.records.specs.Checked.{Checked, refused, passed, _>>=_}
 use Rattle.records.specs.declared.Status.the-variants.{ObjectPathNotFound}
 use Rattle.records.specs.declared.FileNo.{FileNo}
 use Rattle.records.specs.declared.LinkNo.{LinkNo}
-use Rattle.records.specs.declared.StreamNo.{StreamNo}
 use Rattle.records.specs.declared.Link.{Link}
 use Rattle.units.specs.Units.{equalUnits}
 use Rattle.stored_names.specs.StoredNames.{units}
@@ -28,17 +27,6 @@ linkNumber (some n) = some (record { 0 = n })
 
 unfoldable pub findLink : Namespace → Bool → FileNo → List ℕ → Option LinkNo
 findLink ns fold dir name = linkNumber (first (linkMatches fold dir name) (ns .links))
-
--- a stream of the file whose name matches
-unfoldable pub streamMatches : Bool → FileNo → List ℕ → BareStream → Bool
-streamMatches fold file name s = bareUsed s && eqb (s .file .0) (file .0) && equalUnits fold (units (s .name)) name
-
-unfoldable pub streamNumber : Option ℕ → Option StreamNo
-streamNumber none = none
-streamNumber (some n) = some (record { 0 = n })
-
-unfoldable pub findStream : Namespace → Bool → FileNo → List ℕ → Option StreamNo
-findStream ns fold file name = streamNumber (first (streamMatches fold file name) (ns .streams))
 
 -- a component before the last: the directory that it names
 unfoldable pub stepInto : Namespace → Option LinkNo → Checked FileNo

@@ -1,7 +1,6 @@
 // The walk through a path's components (step 6).
 use crate::Located;
 use crate::Walked;
-use crate::find::link_matches;
 use paths::LeafParts;
 use paths::ParsedPath;
 use paths::Part;
@@ -10,19 +9,32 @@ use paths::part_of;
 use paths::units_before;
 use records::File;
 use records::FileNo;
+use records::Link;
 use records::LinkNo;
 use records::Status;
 use records::Volume;
 use records::sizes::FILE_SLOTS;
 use records::sizes::LINK_SLOTS;
 use records::slots::is_directory;
+use stored_names::name_equals;
 use tables::link_at;
 ghost use mathlib.Core.Path.{_≡_};
 ghost use Rattle.records.specs.Slots.{root, isDirectory};
 ghost use Rattle.records.specs.Namespace.{namespace};
 ghost use Rattle.paths.specs.Positions.{partOf, parentsOf, asLeaf};
-ghost use Rattle.lookup.specs.Lookup.{locate};
+ghost use Rattle.lookup.specs.Lookup.{linkMatches, locate};
 ghost use Rattle.lookup.specs.Answers.{walkedFrom, asPlace, pathTo, leafNames, locateParsed};
+
+// Whether a link is the directory's, under the name.
+fn link_matches(l: Link, dir: FileNo, name: &[u16], fold: bool) -> bool
+    ensures { λ r. ⌜ r ≡ linkMatches fold dir (now (name .entry)) l ⌝ }
+{
+    if l.parent.0 != dir.0 {
+        return false;
+    }
+    let link_name = l.name;
+    name_equals(link_name, name, fold)
+}
 
 // What the search for a component before the last finds.
 enum FoundFile {

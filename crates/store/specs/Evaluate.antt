@@ -13,7 +13,8 @@ use Rattle.units.specs.Units.{upper, folded, equalUnits}
 use Rattle.names.specs.Names.{validUnit, validFileName, validStreamName}
 use Rattle.stored_names.specs.StoredNames.{units, wellStored}
 use Rattle.paths.specs.Paths.{startPart, split, components, endsIn, leafOf, validLeaf, checkedLeaf, parseComponents, parsePath}
-use Rattle.lookup.specs.Lookup.{linkMatches, linkNumber, findLink, streamMatches, streamNumber, findStream, stepInto, descend, placeOf, locateLeaf, locate}
+use Rattle.lookup.specs.Lookup.{linkMatches, linkNumber, findLink, stepInto, descend, placeOf, locateLeaf, locate}
+use Rattle.stream_lookup.specs.StreamLookup.{streamMatches, streamNumber, findStream}
 use Rattle.access.specs.Access.{effective, need, accessFrom, accessRule, checkedAccess}
 use Rattle.sharing.specs.Sharing.{accessBits, shareBit, anyKind, holds, shares, counted, conflict, conflicting, onStream, anyConflict, isHolder, isSharer, countsOfAll, countsOf, holders, sharers, shareCheck, changedBy, withOpen, withoutOpen}
 use Rattle.consistency.specs.Relations.{validMasks, linkTo, streamOf, unnamedOf, live, parentOf, climb, reaches}

@@ -23,7 +23,8 @@ use Rattle.records.specs.declared.StreamNo.{StreamNo}
 use Rattle.records.specs.declared.File.{File}
 use Rattle.records.specs.declared.Request.{Request}
 use Rattle.paths.specs.Paths.{Path, Leaf, parsePath}
-use Rattle.lookup.specs.Lookup.{Place, found, missing, locate, findStream}
+use Rattle.lookup.specs.Lookup.{Place, found, missing, locate}
+use Rattle.stream_lookup.specs.StreamLookup.{findStream}
 use Rattle.access.specs.Access.{accessRule, checkedAccess}
 use Rattle.store.specs.Request.{wantsDirectory, wantsFile, badParameters, badAccess, wantsBoth, writesVolume}
 

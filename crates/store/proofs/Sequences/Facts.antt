@@ -19,7 +19,8 @@ use Rattle.records.specs.declared.StreamNo.{StreamNo}
 use Rattle.records.specs.declared.File.{File}
 use Rattle.records.specs.declared.Open.{Open}
 use Rattle.names.specs.Names.{validFileName, validStreamName}
-use Rattle.lookup.specs.Lookup.{linkMatches, streamMatches}
+use Rattle.lookup.specs.Lookup.{linkMatches}
+use Rattle.stream_lookup.specs.StreamLookup.{streamMatches}
 use Rattle.consistency.specs.Relations.{validMasks}
 use Rattle.consistency.specs.Consistent.{FilesConsistent, LinksConsistent, StreamsConsistent}
 use Rattle.store.specs.Prepare.{Existing, Creation, newStream, newFile, Pending, existing, creating}

@@ -36,7 +36,8 @@ use Rattle.names.specs.Names.{validStreamName}
 use Rattle.stored_names.specs.StoredNames.{units}
 use Rattle.paths.specs.Paths.{Leaf, Path, parsePath}
 use Rattle.paths.proofs.Parsed.{LeafFits, parsed-leaf}
-use Rattle.lookup.specs.Lookup.{linkMatches, streamMatches, streamNumber, findStream, Place, found, missing, locate}
+use Rattle.lookup.specs.Lookup.{linkMatches, Place, found, missing, locate}
+use Rattle.stream_lookup.specs.StreamLookup.{streamMatches, streamNumber, findStream}
 use Rattle.store.specs.Request.{wantsDirectory, wantsFile, badParameters, badAccess, wantsBoth, writesVolume}
 use Rattle.store.specs.Prepare
 use Rattle.store.specs.Prepare.{Existing, newStream, newFile, Pending, existing, creating, opening, grant, grantedNew, newType, attributesNew, fileNew, prepareNew, wrongType, streamOr, prepareDirectory, prepareOpen, gained, replacement, prepareReplace, prepareStream, prepareData, prepareFound, prepareAt, streamName, hasColon, readSharingOf, prepare}

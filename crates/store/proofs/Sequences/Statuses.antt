@@ -29,7 +29,8 @@ use Rattle.units.specs.Units.{colon, folded, equalUnits}
 use Rattle.stored_names.specs.StoredNames.{units}
 use Rattle.paths.specs.Paths.{Leaf, Path, split, components, leafOf, validLeaf, checkedLeaf, parseComponents, parsePath}
 use Rattle.paths.proofs.Parsed.{parsed-leaf}
-use Rattle.lookup.specs.Lookup.{findLink, streamMatches, streamNumber, findStream, stepInto, descend, Place, found, missing, locate}
+use Rattle.lookup.specs.Lookup.{findLink, stepInto, descend, Place, found, missing, locate}
+use Rattle.stream_lookup.specs.StreamLookup.{streamMatches, streamNumber, findStream}
 use Rattle.access.specs.Access.{accessRule, checkedAccess}
 use Rattle.access.specs.declared.Access.{Access}
 use Rattle.access.specs.declared.Access.the-variants.{Granted, Denied}

@@ -18,7 +18,8 @@ use Rattle.records.specs.declared.StreamNo.{StreamNo}
 use Rattle.records.specs.declared.Link.{Link}
 use Rattle.stored_names.specs.StoredNames.{units}
 use Rattle.units.proofs.Compare.{equal-matches}
-use Rattle.lookup.specs.Lookup.{linkMatches, streamMatches}
+use Rattle.lookup.specs.Lookup.{linkMatches}
+use Rattle.stream_lookup.specs.StreamLookup.{streamMatches}
 use Rattle.consistency.specs.Relations.{linkTo, streamOf, unnamedOf}
 use Rattle.consistency.proofs.Slots.{same-file}
 use Rattle.consistency.proofs.Links.{link-in}

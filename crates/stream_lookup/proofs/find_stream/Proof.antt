@@ -1,4 +1,4 @@
--- `lookup::find::find_stream` meets its contract. The invariant: the answer is what the rest of the table gives.
+-- `stream_lookup::find_stream` meets its contract. The invariant: the answer is what the rest of the table gives.
 use Prim.Native.Nat.{ℕ, _-_}
 use mathlib.Core.Path.{_≡_, sym, ap, _∙_}
 use mathlib.Core.Bool.{Bool}
@@ -12,11 +12,11 @@ use Rattle.records.specs.Namespace.{namespace, bare}
 use Rattle.records.specs.declared.FileNo.{FileNo}
 use Rattle.records.specs.declared.Stream.{Stream}
 use Rattle.records.proofs.Lengths.{streams-length}
-use Rattle.lookup.specs.Lookup.{streamMatches, streamNumber, findStream}
-use Rattle.lookup.specs.Answers.{foundStream}
-use Rattle.lookup.specs.declared.FoundStream.{FoundStream}
-use Rattle.lookup.proofs.find.find_stream.Statement.{statement}
-use Rattle.lookup.proofs.find.find_stream.Tie as tie
+use Rattle.stream_lookup.specs.StreamLookup.{streamMatches, streamNumber, findStream}
+use Rattle.stream_lookup.specs.StreamLookup.{foundStream}
+use Rattle.stream_lookup.specs.declared.FoundStream.{FoundStream}
+use Rattle.stream_lookup.proofs.find_stream.Statement.{statement}
+use Rattle.stream_lookup.proofs.find_stream.Tie as tie
 
 abbrev found : Option ℕ → FoundStream
 found n = foundStream (streamNumber n)

@@ -1,9 +1,9 @@
--- `lookup::find::link_matches` meets its contract.
+-- `lookup::walk::link_matches` meets its contract.
 use borrow.Author.Needs.{needs}
 use borrow.Author.Tests.{eq-eqb, ne-eqb}
 use Rattle.lookup.specs.Lookup.{linkMatches}
-use Rattle.lookup.proofs.find.link_matches.Statement.{statement}
-use Rattle.lookup.proofs.find.link_matches.Tie as tie
+use Rattle.lookup.proofs.walk.link_matches.Statement.{statement}
+use Rattle.lookup.proofs.walk.link_matches.Tie as tie
 
 returns : tie.Need-returns
 unfolding linkMatches

@@ -1,13 +1,8 @@
-// A directory's link and a file's stream by name. Names are compared only where the parent, or the file, agrees.
-use crate::FoundLink;
-use crate::FoundStream;
+// A file's stream by name: the lowest matching slot. Names are compared only where the file agrees.
 use records::FileNo;
-use records::Link;
-use records::LinkNo;
 use records::Stream;
 use records::StreamNo;
 use records::Volume;
-use records::sizes::LINK_SLOTS;
 use records::sizes::STREAM_SLOTS;
 use records::slots::stream_used;
 use stored_names::name_equals;
@@ -15,22 +10,16 @@ ghost use mathlib.Core.Path.{_≡_};
 ghost use mathlib.Core.Bool.{false};
 ghost use mathlib.Core.List.{[]};
 ghost use Rattle.records.specs.Namespace.{namespace, bare};
-ghost use Rattle.lookup.specs.Lookup.{linkMatches, streamMatches, findLink, findStream};
-ghost use Rattle.lookup.specs.Answers.{foundLink, foundStream};
+ghost use Rattle.stream_lookup.specs.StreamLookup.{streamMatches, findStream, foundStream};
 
-// Whether a link is the directory's, under the name.
-pub fn link_matches(l: Link, dir: FileNo, name: &[u16], fold: bool) -> bool
-    ensures { λ r. ⌜ r ≡ linkMatches fold dir (now (name .entry)) l ⌝ }
-{
-    if l.parent.0 != dir.0 {
-        return false;
-    }
-    let link_name = l.name;
-    name_equals(link_name, name, fold)
+// What a search for a stream finds.
+pub enum FoundStream {
+    At(StreamNo),
+    Missing,
 }
 
 // Whether a stream is the file's, under the name.
-pub fn stream_matches(s: Stream, file: FileNo, name: &[u16], fold: bool) -> bool
+fn stream_matches(s: Stream, file: FileNo, name: &[u16], fold: bool) -> bool
     ensures { λ r. ⌜ r ≡ streamMatches fold file (now (name .entry)) (bare s) ⌝ }
 {
     if !stream_used(s) {
@@ -41,21 +30,6 @@ pub fn stream_matches(s: Stream, file: FileNo, name: &[u16], fold: bool) -> bool
     }
     let stream_name = s.name;
     name_equals(stream_name, name, fold)
-}
-
-pub fn find_link(v: Volume, dir: FileNo, name: &[u16], fold: bool) -> FoundLink
-    ensures { λ r. ⌜ r ≡ foundLink (findLink (namespace v) fold dir (now (name .entry))) ⌝ }
-{
-    let mut i: usize = 0;
-    while i < LINK_SLOTS {
-        let l = v.links[i];
-        if link_matches(l, dir, name, fold) {
-            let link = i as u16;
-            return FoundLink::At(LinkNo(link));
-        }
-        i += 1;
-    }
-    FoundLink::Missing
 }
 
 pub fn find_stream(v: Volume, file: FileNo, name: &[u16], fold: bool) -> FoundStream
