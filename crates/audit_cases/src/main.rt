@@ -1,10 +1,6 @@
 // The audit on tables that break the rules of document 01 ("Tables are sound when") one at a time. A line for each: the
 // case and what the audit says. Fresh and good tables come first; every other case is one of the two with one thing
 // broken, so that each clause is seen to be looked at.
-mod broken_files;
-mod broken_links;
-mod broken_opens;
-mod broken_streams;
 mod files;
 mod links;
 mod opens;

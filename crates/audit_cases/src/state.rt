@@ -154,15 +154,26 @@ pub fn good_counts() -> ShareCounts {
     }
 }
 
-// An open of stream 2.
-pub fn open(handle: u64, granted: u32, share: u32) -> Open {
+// Stream 2 with its counts.
+pub fn stream_counting(counts: ShareCounts) -> Stream {
+    let mut s = stream(2, FileType::Data, unnamed());
+    s.counts = counts;
+    s
+}
+
+pub fn row(handle: u64, file: u16, stream: u16, granted: u32, share: u32) -> Open {
     Open {
         handle: Handle(handle),
-        file: FileNo(2),
-        stream: StreamNo(2),
+        file: FileNo(file),
+        stream: StreamNo(stream),
         granted,
         share,
     }
+}
+
+// An open of stream 2.
+pub fn open(handle: u64, granted: u32, share: u32) -> Open {
+    row(handle, 2, 2, granted, share)
 }
 
 fn good_files(v: Volume) -> Volume {
@@ -180,9 +191,7 @@ fn good_links(v: Volume) -> Volume {
 }
 
 fn good_streams(v: Volume) -> Volume {
-    let mut opened = stream(2, FileType::Data, unnamed());
-    let counts = good_counts();
-    opened.counts = counts;
+    let opened = stream_counting(good_counts());
     let one = with_stream(v, 1, stream(1, FileType::Directory, unnamed()));
     let two = with_stream(one, 2, opened);
     let three = with_stream(two, 3, stream(2, FileType::Data, log()));
