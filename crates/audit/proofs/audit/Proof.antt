@@ -1,4 +1,4 @@
--- `consistency::audit` meets its contract: the five tables' tests are the parts of the whole.
+-- `audit::audit` meets its contract: the five tables' tests are the parts of the whole.
 use mathlib.Core.Path.{_≡_, sym, _∙_}
 use mathlib.Core.Bool.{Bool, true, false, not}
 use borrow.Author.Tests.{not-true, not-false}

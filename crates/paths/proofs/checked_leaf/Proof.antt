@@ -1,4 +1,4 @@
--- `names::paths::checked_leaf` meets its contract: a component that its colons do not refuse is judged by its names.
+-- `paths::checked_leaf` meets its contract: a component that its colons do not refuse is judged by its names.
 use Prim.Native.Nat.{ℕ}
 use mathlib.Core.Bool.{Bool, true, false}
 use mathlib.Core.List.{List}

@@ -1,4 +1,4 @@
--- `names::paths::ends_in_backslash` meets its contract, by the last unit.
+-- `paths::ends_in_backslash` meets its contract, by the last unit.
 use mathlib.Core.Path.{sym}
 use borrow.Author.Needs.{needs}
 use Rattle.units.specs.Units.{backslash}

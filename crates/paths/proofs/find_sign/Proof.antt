@@ -1,4 +1,4 @@
--- `names::paths::find_sign` meets its contract. The loop's invariant: the place sought is the first that fails from i on.
+-- `paths::find_sign` meets its contract. The loop's invariant: the place sought is the first that fails from i on.
 use Prim.Native.Nat.{_+_, _-_}
 use mathlib.Core.Bool.{not}
 use mathlib.Core.Path.{_≡_, refl, sym, ap, _∙_}

@@ -1,4 +1,4 @@
--- `names::paths::leaf_parts` meets its contract: without a colon the component is the file's name.
+-- `paths::leaf_parts` meets its contract: without a colon the component is the file's name.
 use mathlib.Core.Path.{sym, ap, _∙_}
 use lib.Seq.{slice-empty}
 use borrow.Author.Needs.{needs}

@@ -1,4 +1,4 @@
--- `names::paths::parse_components` meets its contract. The loop's invariant is the walk's `At` the present component; the measure
+-- `paths::parse_components` meets its contract. The loop's invariant is the walk's `At` the present component; the measure
 -- is what is left of the path after it.
 use Prim.Native.Nat.{_-_}
 use mathlib.Core.Path.{_≡_, sym, ap, subst, subst⁻¹, _∙_}

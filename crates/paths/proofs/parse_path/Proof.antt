@@ -1,4 +1,4 @@
--- `names::paths::parse_path` meets its contract.
+-- `paths::parse_path` meets its contract.
 use mathlib.Core.Bool.{false, _&&_}
 use mathlib.Core.Logic.{⊎-elim}
 use mathlib.Core.Path.{_≡_, sym, _∙_}

@@ -1,4 +1,4 @@
--- `names::paths::part_of` meets its contract: what is left of the units before the part's end.
+-- `paths::part_of` meets its contract: what is left of the units before the part's end.
 use Prim.Native.Nat.{_-_}
 use mathlib.Core.Path.{sym, ap, _∙_}
 use native.Mathlib.Omega.{arith}

@@ -1,4 +1,4 @@
--- `names::paths::skip_sign` meets its contract. The loop's invariant: the place sought is the first that fails from i on.
+-- `paths::skip_sign` meets its contract. The loop's invariant: the place sought is the first that fails from i on.
 use Prim.Native.Nat.{_+_, _-_}
 use mathlib.Core.Path.{_≡_, refl, sym, _∙_}
 use native.Mathlib.Omega.{arith}

@@ -1,4 +1,4 @@
--- `names::paths::stream_parts` meets its contract: a type follows the second colon, or the stream's name ends the component.
+-- `paths::stream_parts` meets its contract: a type follows the second colon, or the stream's name ends the component.
 use mathlib.Core.Bool.{true, false}
 use mathlib.Core.Path.{sym, ap, _∙_}
 use borrow.Author.Needs.{needs}

@@ -1,4 +1,4 @@
--- `names::paths::units_before` meets its contract: past the end all units are taken.
+-- `paths::units_before` meets its contract: past the end all units are taken.
 use mathlib.Core.Path.{sym}
 use native.Mathlib.Omega.{arith}
 use lib.ListN.{length-take}

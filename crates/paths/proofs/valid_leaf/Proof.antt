@@ -1,4 +1,4 @@
--- `names::paths::valid_leaf` meets its contract, by the names and the colon.
+-- `paths::valid_leaf` meets its contract, by the names and the colon.
 use mathlib.Core.Path.{_≡_, sym, ap, _∙_}
 use borrow.Author.Needs.{needs}
 use borrow.Author.Tests.{not-true, not-false}
