@@ -1,4 +1,4 @@
--- From a file and a name to a stream of the file (steps 8 and 11). The lowest matching slot wins.
+-- From a file and a name to a stream of the file (steps 10 and 11), matched as in step 6. The lowest matching slot wins.
 use Prim.Native.Nat.{ℕ}
 use mathlib.Core.Bool.{Bool, _&&_}
 use mathlib.Core.List.{List}
