@@ -1,4 +1,4 @@
--- The lowest free slot of each table, from a place on, and whether a file has an open.
+-- The lowest free slot of each table, from a place on (step 12), and whether a file has an open (step 10).
 use Prim.Native.Nat.{ℕ}
 use mathlib.Core.Bool.{Bool, not, _&&_}
 use mathlib.Core.Option.{Option, none, some}
