@@ -11,8 +11,8 @@ use records::FileType;
 use records::OpenTable;
 use records::Stream;
 use records::Volume;
-use records::slots::zero_file;
-use records::slots::zero_stream;
+use records::slots::ZERO_FILE;
+use records::slots::ZERO_STREAM;
 
 // The volume with another file in a slot.
 fn case(name: &[u8], v: Volume, t: OpenTable, slot: usize, f: File) {
@@ -39,16 +39,16 @@ fn with_mask(f: File, account: usize, mask: u32) -> File {
 }
 
 fn slot_cases(v: Volume, t: OpenTable) {
-    let attributed = with_attributes(zero_file(), 0x20);
+    let attributed = with_attributes(ZERO_FILE, 0x20);
     case(b"free file with attributes", v, t, 127, attributed);
-    let masked = with_mask(zero_file(), 7, 1);
+    let masked = with_mask(ZERO_FILE, 7, 1);
     case(b"free file with a mask", v, t, 5, masked);
 }
 
 fn root_cases(v: Volume, t: OpenTable) {
     let data = stream(0, FileType::Data, unnamed());
     root_case(b"root a data file", v, t, data_file(), data);
-    root_case(b"root free", v, t, zero_file(), zero_stream());
+    root_case(b"root free", v, t, ZERO_FILE, ZERO_STREAM);
 }
 
 fn attribute_cases(v: Volume, t: OpenTable) {

@@ -9,7 +9,7 @@ use crate::state::with_link;
 use records::Link;
 use records::OpenTable;
 use records::Volume;
-use records::slots::zero_link;
+use records::slots::ZERO_LINK;
 
 // The volume with another link in a slot.
 fn case(name: &[u8], v: Volume, t: OpenTable, slot: usize, l: Link) {
@@ -28,7 +28,7 @@ fn slot_cases(v: Volume, t: OpenTable) {
     );
     case(b"link to the root", v, t, 5, link(1, letter(0x62), 0));
     case(b"file with two links", v, t, 5, link(0, letter(0x62), 4));
-    case(b"file without a link", v, t, 3, zero_link());
+    case(b"file without a link", v, t, 3, ZERO_LINK);
     case(b"link to a free file", v, t, 5, link(1, letter(0x62), 9));
     case(
         b"link to a file past the end",

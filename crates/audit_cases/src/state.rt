@@ -16,17 +16,17 @@ use records::Stream;
 use records::StreamNo;
 use records::Volume;
 use records::constants::ALL_ACCESS;
-use records::slots::zero_counts;
-use records::slots::zero_file;
-use records::slots::zero_link;
-use records::slots::zero_open;
-use records::slots::zero_stream;
+use records::slots::ZERO_COUNTS;
+use records::slots::ZERO_FILE;
+use records::slots::ZERO_LINK;
+use records::slots::ZERO_OPEN;
+use records::slots::ZERO_STREAM;
 
 // Tables all zero, which format doesn't look at.
 fn zero_volume() -> Volume {
-    let files = [zero_file(); 128];
-    let links = [zero_link(); 192];
-    let streams = [zero_stream(); 256];
+    let files = [ZERO_FILE; 128];
+    let links = [ZERO_LINK; 192];
+    let streams = [ZERO_STREAM; 256];
     Volume {
         read_only: false,
         next_handle: Handle(0),
@@ -38,7 +38,7 @@ fn zero_volume() -> Volume {
 
 // Formatted tables, writable, with all access for every account.
 pub fn fresh() -> Answer {
-    let rows = [zero_open(); 256];
+    let rows = [ZERO_OPEN; 256];
     let opens = OpenTable { rows };
     let masks = [ALL_ACCESS; 8];
     format::format(zero_volume(), opens, masks, false)
@@ -137,7 +137,7 @@ pub fn stream(file: u16, stream_type: FileType, name: [u16; 32]) -> Stream {
         file: FileNo(file),
         stream_type,
         name,
-        counts: zero_counts(),
+        counts: ZERO_COUNTS,
     }
 }
 

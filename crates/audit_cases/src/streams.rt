@@ -14,8 +14,8 @@ use records::OpenTable;
 use records::ShareCounts;
 use records::Stream;
 use records::Volume;
-use records::slots::zero_counts;
-use records::slots::zero_stream;
+use records::slots::ZERO_COUNTS;
+use records::slots::ZERO_STREAM;
 
 // The volume with another stream in a slot.
 fn case(name: &[u8], v: Volume, t: OpenTable, slot: usize, s: Stream) {
@@ -46,9 +46,9 @@ fn free_cases(v: Volume, t: OpenTable) {
         9,
         stream(0, FileType::Unused, tail),
     );
-    let mut counts = zero_counts();
+    let mut counts = ZERO_COUNTS;
     counts.opens = 1;
-    let mut counted = zero_stream();
+    let mut counted = ZERO_STREAM;
     counted.counts = counts;
     case(b"free stream with a count", v, t, 9, counted);
 }
@@ -114,7 +114,7 @@ fn type_cases(v: Volume, t: OpenTable) {
         5,
         stream(4, FileType::Data, log()),
     );
-    case(b"data file without a stream", v, t, 5, zero_stream());
+    case(b"data file without a stream", v, t, 5, ZERO_STREAM);
     case(
         b"directory with a second stream",
         v,

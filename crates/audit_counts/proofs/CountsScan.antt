@@ -19,7 +19,7 @@ use Rattle.records.specs.declared.StreamNo.{StreamNo}
 use Rattle.records.specs.declared.Stream.{Stream}
 use Rattle.sharing.specs.Sharing.{onStream, countsOf}
 use Rattle.sharing.specs.Saturating.{withOpenUpTo}
-use Rattle.sharing.proofs.Rows.{countsFrom, from-end, from-start, row-counted, row-passed}
+use Rattle.audit_counts.proofs.Rows.{countsFrom, from-end, from-start, row-counted, row-passed}
 use Rattle.consistency.specs.Relations.{live}
 use Rattle.consistency.specs.Test.{sameCounts, countsTest}
 
@@ -32,8 +32,8 @@ module _ (rows : List Open) where
   abbrev pub Counted : ℕ → List ShareCounts → ℕ → Type 0
   Counted size cs i = (n : ℕ) → n < size → getD cs n zeroCounts ≡ countsFrom (stream n) rows i
 
-  pub none-counted : (size i : ℕ) {none : ShareCounts} → none ≡ zeroCounts → length rows ≤ i → Counted size (replicate size none) i
-  none-counted size i {none} e h n b = getD-replicate size n none zeroCounts b ∙ e ∙ sym (from-end (stream n) rows i h)
+  pub none-counted : (size i : ℕ) → length rows ≤ i → Counted size (replicate size zeroCounts) i
+  none-counted size i h n b = getD-replicate size n zeroCounts zeroCounts b ∙ sym (from-end (stream n) rows i h)
 
   pub all-counted : (size : ℕ) (cs : List ShareCounts) → Counted size cs 0 → (n : ℕ) → n < size
       → getD cs n zeroCounts ≡ countsOf (stream n) (live rows)

@@ -4,8 +4,8 @@ use records::ShareCounts;
 use records::Volume;
 use records::sizes::OPEN_SLOTS;
 use records::sizes::STREAM_SLOTS;
+use records::slots::ZERO_COUNTS;
 use records::slots::open_used;
-use records::slots::zero_counts;
 use sharing::with_open;
 ghost use Prim.Native.Nat.{ℕ, _<_};
 ghost use mathlib.Core.Path.{_≡_};
@@ -32,8 +32,7 @@ fn same_counts(c: ShareCounts, d: ShareCounts) -> bool
 fn counts_of_streams(t: OpenTable) -> [ShareCounts; STREAM_SLOTS]
     ensures { λ r. ⌜ ((n : ℕ) → n < 256 → getD r n zeroCounts ≡ countsOf (record { 0 = n }) (live (t .rows))) ⌝ }
 {
-    let none = zero_counts();
-    let mut counts = [none; STREAM_SLOTS];
+    let mut counts = [ZERO_COUNTS; STREAM_SLOTS];
     let mut i: usize = OPEN_SLOTS;
     while 0 < i {
         i -= 1;

@@ -11,11 +11,11 @@ use records::Status;
 use records::Stream;
 use records::Volume;
 use records::constants::DIRECTORY;
-use records::slots::zero_counts;
-use records::slots::zero_file;
-use records::slots::zero_link;
-use records::slots::zero_open;
-use records::slots::zero_stream;
+use records::slots::ZERO_COUNTS;
+use records::slots::ZERO_FILE;
+use records::slots::ZERO_LINK;
+use records::slots::ZERO_OPEN;
+use records::slots::ZERO_STREAM;
 ghost use mathlib.Core.Path.{_≡_};
 ghost use Rattle.format.specs.Format as definitions;
 
@@ -38,17 +38,17 @@ fn root_stream() -> Stream
         file: FileNo(0),
         stream_type: FileType::Directory,
         name: [0; 32],
-        counts: zero_counts(),
+        counts: ZERO_COUNTS,
     }
 }
 
 fn fresh_volume(masks: [u32; 8], read_only: bool) -> Volume
     ensures { λ r. ⌜ r ≡ definitions.freshVolume masks «read_only» ⌝ }
 {
-    let mut files = [zero_file(); 128];
+    let mut files = [ZERO_FILE; 128];
     files[0] = root_file(masks);
-    let links = [zero_link(); 192];
-    let mut streams = [zero_stream(); 256];
+    let links = [ZERO_LINK; 192];
+    let mut streams = [ZERO_STREAM; 256];
     streams[0] = root_stream();
     Volume {
         read_only,
@@ -62,7 +62,7 @@ fn fresh_volume(masks: [u32; 8], read_only: bool) -> Volume
 fn fresh_opens() -> OpenTable
     ensures { λ r. ⌜ r ≡ definitions.freshOpens ⌝ }
 {
-    let rows = [zero_open(); 256];
+    let rows = [ZERO_OPEN; 256];
     OpenTable { rows }
 }
 

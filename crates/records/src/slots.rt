@@ -12,65 +12,44 @@ use crate::sizes::ACCOUNTS;
 use crate::sizes::FILE_NAME_LIMIT;
 use crate::sizes::STREAM_NAME_LIMIT;
 ghost use mathlib.Core.Path.{_≡_};
-ghost use Rattle.records.specs.Slots.{zeroFile, zeroLink, zeroCounts, zeroStream, zeroOpen};
 ghost use Rattle.records.specs.Slots.{isUsed, isDirectory, isData, fileUsed, linkUsed, streamUsed, openUsed, maskOf};
 
-pub fn zero_file() -> File
-    ensures { λ r. ⌜ r ≡ zeroFile ⌝ }
-{
-    File {
-        file_type: FileType::Unused,
-        attributes: 0,
-        masks: [0; ACCOUNTS],
-    }
-}
+pub const ZERO_FILE: File = File {
+    file_type: FileType::Unused,
+    attributes: 0,
+    masks: [0; ACCOUNTS],
+};
 
-pub fn zero_link() -> Link
-    ensures { λ r. ⌜ r ≡ zeroLink ⌝ }
-{
-    Link {
-        parent: FileNo(0),
-        name: [0; FILE_NAME_LIMIT],
-        file: FileNo(0),
-    }
-}
+pub const ZERO_LINK: Link = Link {
+    parent: FileNo(0),
+    name: [0; FILE_NAME_LIMIT],
+    file: FileNo(0),
+};
 
-pub fn zero_counts() -> ShareCounts
-    ensures { λ r. ⌜ r ≡ zeroCounts ⌝ }
-{
-    ShareCounts {
-        opens: 0,
-        readers: 0,
-        writers: 0,
-        deleters: 0,
-        shared_read: 0,
-        shared_write: 0,
-        shared_delete: 0,
-    }
-}
+pub const ZERO_COUNTS: ShareCounts = ShareCounts {
+    opens: 0,
+    readers: 0,
+    writers: 0,
+    deleters: 0,
+    shared_read: 0,
+    shared_write: 0,
+    shared_delete: 0,
+};
 
-pub fn zero_stream() -> Stream
-    ensures { λ r. ⌜ r ≡ zeroStream ⌝ }
-{
-    Stream {
-        file: FileNo(0),
-        stream_type: FileType::Unused,
-        name: [0; STREAM_NAME_LIMIT],
-        counts: zero_counts(),
-    }
-}
+pub const ZERO_STREAM: Stream = Stream {
+    file: FileNo(0),
+    stream_type: FileType::Unused,
+    name: [0; STREAM_NAME_LIMIT],
+    counts: ZERO_COUNTS,
+};
 
-pub fn zero_open() -> Open
-    ensures { λ r. ⌜ r ≡ zeroOpen ⌝ }
-{
-    Open {
-        handle: Handle(0),
-        file: FileNo(0),
-        stream: StreamNo(0),
-        granted: 0,
-        share: 0,
-    }
-}
+pub const ZERO_OPEN: Open = Open {
+    handle: Handle(0),
+    file: FileNo(0),
+    stream: StreamNo(0),
+    granted: 0,
+    share: 0,
+};
 
 pub fn is_used(t: FileType) -> bool
     ensures { λ r. ⌜ r ≡ isUsed t ⌝ }

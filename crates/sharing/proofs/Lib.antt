@@ -2,4 +2,3 @@ pub mod PairRule
 pub mod Counts
 pub mod Check
 pub mod UpTo
-pub mod Rows

@@ -1,21 +1,16 @@
 // The sharing rule: when two opens of a stream conflict, the share counts of a stream, and the share check that decides
 // from them.
 use records::Open;
-use records::OpenTable;
 use records::ShareCounts;
-use records::StreamNo;
-use records::slots::open_used;
-use records::slots::zero_counts;
+use records::slots::ZERO_COUNTS;
 ghost use mathlib.Core.Path.{_≡_};
 ghost use mathlib.Core.Bool.{cond, not, _&&_, _||_};
 ghost use mathlib.Core.List.{[], _∷_};
 ghost use Prim.Native.Nat.{_-_};
 ghost use lib.Dec.{eqb, ltb};
 ghost use Rattle.bits.specs.Bits.{has};
-ghost use Rattle.lists.specs.Lists.{keep};
-ghost use Rattle.records.specs.Slots.{openUsed};
-ghost use Rattle.sharing.specs.Sharing.{counted, conflict, conflicting, shareCheck};
-ghost use Rattle.sharing.specs.Sharing.{countsOf, countsOfAll, withoutOpen};
+ghost use Rattle.sharing.specs.Sharing.{counted, conflicting, shareCheck};
+ghost use Rattle.sharing.specs.Sharing.{countsOfAll, withoutOpen};
 ghost use Rattle.sharing.specs.Saturating.{countLimit, plusUpTo, withOpenUpTo};
 
 // The access that reads, writes and deletes, and the sharing mode that allows each.
@@ -32,7 +27,7 @@ const SHARE_WRITE: u32 = 2;
 const SHARE_DELETE: u32 = 4;
 
 // An open is counted where it reads, writes or deletes.
-pub fn counted(granted: u32) -> bool
+fn counted(granted: u32) -> bool
     ensures { λ r. ⌜ r ≡ counted granted ⌝ }
 {
     bits::has(granted, READS) | bits::has(granted, WRITES) | bits::has(granted, DELETES)
@@ -46,22 +41,16 @@ fn unshared(granted: u32, other_share: u32, access: u32, allows: u32) -> bool
 }
 
 // The pair rule (the paper's clash): two counted opens, of which one has a kind of access that the other doesn't share.
-pub fn conflict(granted: u32, share: u32, other_granted: u32, other_share: u32) -> bool
-    ensures { λ r. ⌜ r ≡ conflict granted share «other_granted» «other_share» ⌝ }
-{
-    let reading = unshared(granted, other_share, READS, SHARE_READ)
-        | unshared(other_granted, share, READS, SHARE_READ);
-    let writing = unshared(granted, other_share, WRITES, SHARE_WRITE)
-        | unshared(other_granted, share, WRITES, SHARE_WRITE);
-    let deleting = unshared(granted, other_share, DELETES, SHARE_DELETE)
-        | unshared(other_granted, share, DELETES, SHARE_DELETE);
-    counted(granted) & counted(other_granted) & (reading | writing | deleting)
-}
-
 pub fn conflicting(o: Open, q: Open) -> bool
     ensures { λ r. ⌜ r ≡ conflicting o q ⌝ }
 {
-    conflict(o.granted, o.share, q.granted, q.share)
+    let reading = unshared(o.granted, q.share, READS, SHARE_READ)
+        | unshared(q.granted, o.share, READS, SHARE_READ);
+    let writing = unshared(o.granted, q.share, WRITES, SHARE_WRITE)
+        | unshared(q.granted, o.share, WRITES, SHARE_WRITE);
+    let deleting = unshared(o.granted, q.share, DELETES, SHARE_DELETE)
+        | unshared(q.granted, o.share, DELETES, SHARE_DELETE);
+    counted(o.granted) & counted(q.granted) & (reading | writing | deleting)
 }
 
 // A kind of access is held and some counted open doesn't share it, or it isn't shared and some open holds it.
@@ -109,7 +98,7 @@ fn counts_of_one(o: Open) -> ShareCounts
             shared_delete: one_if_has(o.share, SHARE_DELETE),
         }
     } else {
-        zero_counts()
+        ZERO_COUNTS
     }
 }
 
@@ -157,20 +146,4 @@ pub fn without_open(o: Open, c: ShareCounts) -> ShareCounts
         shared_write: minus(c.shared_write, one.shared_write),
         shared_delete: minus(c.shared_delete, one.shared_delete),
     }
-}
-
-// The counts of a stream, from the table of opens: the last row first, as each row comes in front of those counted.
-pub fn counts_of(t: OpenTable, s: StreamNo) -> ShareCounts
-    ensures { λ r. ⌜ r ≡ countsOf s (keep openUsed (t .rows)) ⌝ }
-{
-    let mut c = zero_counts();
-    let mut i: usize = 256;
-    while 0 < i {
-        i -= 1;
-        let o = t.rows[i];
-        if open_used(o) && o.stream.0 == s.0 {
-            c = with_open(o, c);
-        }
-    }
-    c
 }

@@ -12,10 +12,10 @@ use records::sizes::FILE_SLOTS;
 use records::sizes::LINK_SLOTS;
 use records::sizes::OPEN_SLOTS;
 use records::sizes::STREAM_SLOTS;
-use records::slots::zero_file;
-use records::slots::zero_link;
-use records::slots::zero_open;
-use records::slots::zero_stream;
+use records::slots::ZERO_FILE;
+use records::slots::ZERO_LINK;
+use records::slots::ZERO_OPEN;
+use records::slots::ZERO_STREAM;
 ghost use mathlib.Core.Path.{_≡_};
 ghost use lib.ListN.{getD};
 ghost use Rattle.records.specs.Slots.{zeroOpen};
@@ -28,7 +28,7 @@ pub fn file_at(v: Volume, n: FileNo) -> File
     if i < FILE_SLOTS {
         v.files[i]
     } else {
-        zero_file()
+        ZERO_FILE
     }
 }
 
@@ -39,7 +39,7 @@ pub fn link_at(v: Volume, n: LinkNo) -> Link
     if i < LINK_SLOTS {
         v.links[i]
     } else {
-        zero_link()
+        ZERO_LINK
     }
 }
 
@@ -50,16 +50,12 @@ pub fn stream_at(v: Volume, n: StreamNo) -> Stream
     if i < STREAM_SLOTS {
         v.streams[i]
     } else {
-        zero_stream()
+        ZERO_STREAM
     }
 }
 
 pub fn open_at(t: OpenTable, n: usize) -> Open
     ensures { λ r. ⌜ r ≡ getD (t .rows) n zeroOpen ⌝ }
 {
-    if n < OPEN_SLOTS {
-        t.rows[n]
-    } else {
-        zero_open()
-    }
+    if n < OPEN_SLOTS { t.rows[n] } else { ZERO_OPEN }
 }

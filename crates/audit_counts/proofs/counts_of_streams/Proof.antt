@@ -20,13 +20,10 @@ Inv-loop t counts₀ i₀ counts i =
 abbrev μ-loop : tie.MeasureT-loop
 μ-loop t counts₀ i₀ counts i = i
 
-zero-counts-requires : tie.Need-zero-counts-requires Inv-loop μ-loop
-zero-counts-requires c κs = search needs
-
 loop-holds : tie.Need-loop-holds Inv-loop μ-loop
 loop-holds c =
-    let size = rows-length (c .before .args .t1) _ (c .before .good .0) in
-    (search needs, refl, none-counted (c .before .args .t1 .rows) 256 256 (c .zero-counts .ensures) (omega arith))
+    let size = rows-length (c .args .t1) _ (c .good .0) in
+    (search needs, refl, none-counted (c .args .t1 .rows) 256 256 (omega arith))
 
 sub-i : tie.Need-sub-i Inv-loop μ-loop
 sub-i c = search needs
@@ -64,7 +61,7 @@ loop-less c = search needs
 loop-again : tie.Need-loop-again Inv-loop μ-loop
 loop-again c =
     let l = c .before .before .before .before .before .before .before .before in
-    let a = l .before .before in
+    let a = l .before in
     let rows = a .args .t1 .rows in
     let size = rows-length (a .args .t1) _ (a .good .0) in
     let used = c .before .before .before in (
@@ -81,7 +78,7 @@ loop-less-2 c = search needs
 loop-again-2 : tie.Need-loop-again-2 Inv-loop μ-loop
 loop-again-2 c =
     let l = c .before .before .before .before .before in
-    let a = l .before .before in
+    let a = l .before in
     let rows = a .args .t1 .rows in
     let size = rows-length (a .args .t1) _ (a .good .0) in (
       omega arith,
@@ -94,7 +91,7 @@ returns : tie.Need-returns Inv-loop μ-loop
 returns c =
     let l = c .before in
     let z : l .loop .i ≡ 0 = omega arith in
-    all-counted (l .before .before .args .t1 .rows) 256 (l .loop .counts) (subst (Counted (l .before .before .args .t1 .rows) 256 (l .loop .counts)) z (l .loop .inv .2))
+    all-counted (l .before .args .t1 .rows) 256 (l .loop .counts) (subst (Counted (l .before .args .t1 .rows) 256 (l .loop .counts)) z (l .loop .inv .2))
 
 pub counts-of-streams-spec : {M : Type 1} → statement M
 counts-of-streams-spec =
@@ -102,7 +99,6 @@ counts-of-streams-spec =
     (tie.spec
     Inv-loop
     μ-loop
-    zero-counts-requires
     loop-holds
     sub-i
     mul-o

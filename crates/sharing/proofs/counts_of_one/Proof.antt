@@ -26,9 +26,6 @@ one-if-has-requires-5 c κs = search needs
 one-if-has-requires-6 : tie.Need-one-if-has-requires-6
 one-if-has-requires-6 c κs = search needs
 
-zero-counts-requires : tie.Need-zero-counts-requires
-zero-counts-requires c κs = search needs
-
 returns : tie.Need-returns
 unfolding count countsOfAll isHolder isSharer holds shares accessBits shareBit
 returns c =
@@ -45,7 +42,7 @@ returns c =
 
 returns-2 : tie.Need-returns-2
 unfolding count countsOfAll isHolder isSharer holds shares accessBits shareBit
-returns-2 c = rw (c .zero-counts .ensures, ← c .before .before .counted .ensures, c .before .if1 .left)
+returns-2 c = rw (← c .before .counted .ensures, c .if1 .left)
 
 pub counts-of-one-spec : {M : Type 1} → statement M
 counts-of-one-spec =
@@ -58,6 +55,5 @@ counts-of-one-spec =
     one-if-has-requires-4
     one-if-has-requires-5
     one-if-has-requires-6
-    zero-counts-requires
     returns
     returns-2)

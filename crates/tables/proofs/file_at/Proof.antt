@@ -1,6 +1,6 @@
 -- `tables::file_at` meets its contract: below the table's length the default does not matter, past it the
 -- definition says the record of a free slot.
-use mathlib.Core.Path.{sym, _∙_}
+use mathlib.Core.Path.{sym}
 use native.Mathlib.Omega.{arith}
 use lib.ListN.{List·getD-eq-default}
 use borrow.Author.Needs.{needs}
@@ -20,9 +20,6 @@ mul-result c = search needs
 element-copy-out-result : tie.Need-element-copy-out-result
 element-copy-out-result c = search needs
 
-zero-file-requires : tie.Need-zero-file-requires
-zero-file-requires c κs = search needs
-
 returns : tie.Need-returns
 unfolding fileAt
 returns c =
@@ -33,11 +30,11 @@ returns c =
 returns-2 : tie.Need-returns-2
 unfolding fileAt
 returns-2 c =
-    let a = c .before .before .before in
+    let a = c .before .before in
     let h = files-length (a .args .t1) _ (a .good .0) in
-    c .zero-file .ensures ∙ sym (List·getD-eq-default (a .args .t1 .files) zeroFile (omega arith))
+    sym (List·getD-eq-default (a .args .t1 .files) zeroFile (omega arith))
 
 pub file-at-spec : {M : Type 1} → statement M
 file-at-spec =
     tie.close
-    (tie.spec cast-i mul-result element-copy-out-result zero-file-requires returns returns-2)
+    (tie.spec cast-i mul-result element-copy-out-result returns returns-2)

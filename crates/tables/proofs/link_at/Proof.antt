@@ -1,6 +1,6 @@
 -- `tables::link_at` meets its contract: below the table's length the default does not matter, past it the
 -- definition says the record of a free slot.
-use mathlib.Core.Path.{sym, _∙_}
+use mathlib.Core.Path.{sym}
 use native.Mathlib.Omega.{arith}
 use lib.ListN.{List·getD-eq-default}
 use borrow.Author.Needs.{needs}
@@ -20,9 +20,6 @@ mul-result c = search needs
 element-copy-out-result : tie.Need-element-copy-out-result
 element-copy-out-result c = search needs
 
-zero-link-requires : tie.Need-zero-link-requires
-zero-link-requires c κs = search needs
-
 returns : tie.Need-returns
 unfolding linkAt
 returns c =
@@ -33,11 +30,11 @@ returns c =
 returns-2 : tie.Need-returns-2
 unfolding linkAt
 returns-2 c =
-    let a = c .before .before .before in
+    let a = c .before .before in
     let h = links-length (a .args .t1) _ (a .good .0) in
-    c .zero-link .ensures ∙ sym (List·getD-eq-default (a .args .t1 .links) zeroLink (omega arith))
+    sym (List·getD-eq-default (a .args .t1 .links) zeroLink (omega arith))
 
 pub link-at-spec : {M : Type 1} → statement M
 link-at-spec =
     tie.close
-    (tie.spec cast-i mul-result element-copy-out-result zero-link-requires returns returns-2)
+    (tie.spec cast-i mul-result element-copy-out-result returns returns-2)

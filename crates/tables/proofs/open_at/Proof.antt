@@ -1,5 +1,5 @@
 -- `tables::open_at` meets its contract: past the table's end the definition says the record of a free slot.
-use mathlib.Core.Path.{sym, _∙_}
+use mathlib.Core.Path.{sym}
 use native.Mathlib.Omega.{arith}
 use lib.ListN.{List·getD-eq-default}
 use borrow.Author.Needs.{needs}
@@ -14,17 +14,14 @@ mul-result c = search needs
 element-copy-out-result : tie.Need-element-copy-out-result
 element-copy-out-result c = search needs
 
-zero-open-requires : tie.Need-zero-open-requires
-zero-open-requires c κs = search needs
-
 returns : tie.Need-returns
 returns c = search needs
 
 returns-2 : tie.Need-returns-2
 returns-2 c =
-    let a = c .before .before in
+    let a = c .before in
     let h = rows-length (a .args .t1) _ (a .good .0) in
-    c .zero-open .ensures ∙ sym (List·getD-eq-default (a .args .t1 .rows) zeroOpen (omega arith))
+    sym (List·getD-eq-default (a .args .t1 .rows) zeroOpen (omega arith))
 
 pub open-at-spec : {M : Type 1} → statement M
-open-at-spec = tie.close (tie.spec mul-result element-copy-out-result zero-open-requires returns returns-2)
+open-at-spec = tie.close (tie.spec mul-result element-copy-out-result returns returns-2)
