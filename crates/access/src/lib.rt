@@ -2,9 +2,10 @@
 use records::File;
 use records::constants::MAXIMUM_ALLOWED;
 use records::constants::READ_ONLY;
+use records::sizes::ACCOUNTS;
 use records::slots::is_data;
-use records::slots::mask_of;
 ghost use mathlib.Core.Path.{_≡_};
+ghost use Rattle.records.specs.Slots.{maskOf};
 ghost use Rattle.access.specs.Access.{effective, need, accessFrom, accessRule};
 
 // What a read-only data file withholds: to write and to append data.
@@ -16,8 +17,16 @@ pub enum Access {
     Denied,
 }
 
+// The account's access mask on a file; an account past the last has none.
+fn mask_of(f: File, account: u32) -> u32
+    ensures { λ r. ⌜ r ≡ maskOf f account ⌝ }
+{
+    let i = account as usize;
+    if i < ACCOUNTS { f.masks[i] } else { 0 }
+}
+
 // What the account may do with the file at all: its mask there, less the writes on a read-only data file.
-pub fn effective(f: File, account: u32) -> u32
+fn effective(f: File, account: u32) -> u32
     ensures { λ r. ⌜ r ≡ effective f account ⌝ }
 {
     let mask = mask_of(f, account);
@@ -30,7 +39,7 @@ pub fn effective(f: File, account: u32) -> u32
 }
 
 // What the access asked comes to: all of it but the maximum-allowed bit.
-pub fn need(access: u32) -> u32
+fn need(access: u32) -> u32
     ensures { λ r. ⌜ r ≡ need access ⌝ }
 {
     bits::without(access, MAXIMUM_ALLOWED)

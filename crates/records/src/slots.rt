@@ -12,7 +12,7 @@ use crate::sizes::ACCOUNTS;
 use crate::sizes::FILE_NAME_LIMIT;
 use crate::sizes::STREAM_NAME_LIMIT;
 ghost use mathlib.Core.Path.{_≡_};
-ghost use Rattle.records.specs.Slots.{isUsed, isDirectory, isData, fileUsed, linkUsed, streamUsed, openUsed, maskOf};
+ghost use Rattle.records.specs.Slots.{isUsed, isDirectory, isData, fileUsed, linkUsed, streamUsed, openUsed};
 
 pub const ZERO_FILE: File = File {
     file_type: FileType::Unused,
@@ -102,12 +102,4 @@ pub fn open_used(o: Open) -> bool
     ensures { λ r. ⌜ r ≡ openUsed o ⌝ }
 {
     o.handle.0 != 0
-}
-
-// The account's access mask on a file; an account past the last has none.
-pub fn mask_of(f: File, account: u32) -> u32
-    ensures { λ r. ⌜ r ≡ maskOf f account ⌝ }
-{
-    let i = account as usize;
-    if i < ACCOUNTS { f.masks[i] } else { 0 }
 }

@@ -1,13 +1,13 @@
--- `records::slots::mask_of` meets its contract: an account past the last is past the masks' end, where the definition
+-- `access::mask_of` meets its contract: an account past the last is past the masks' end, where the definition
 -- says 0.
 use mathlib.Core.Path.{refl, sym}
 use native.Mathlib.Omega.{arith}
 use lib.ListN.{List·getD-eq-default}
 use borrow.Author.Needs.{needs}
 use Rattle.records.proofs.Lengths.{masks-length}
 use Rattle.records.specs.Slots.{maskOf}
-use Rattle.records.proofs.slots.mask_of.Statement.{statement}
-use Rattle.records.proofs.slots.mask_of.Tie as tie
+use Rattle.access.proofs.mask_of.Statement.{statement}
+use Rattle.access.proofs.mask_of.Tie as tie
 
 mul-result : tie.Need-mul-result
 mul-result c = search needs
