@@ -28,7 +28,7 @@ fn free_link(l: Link) -> bool
         return false;
     }
     let name = l.name;
-    stored_names::well_stored(name)
+    audit_names::well_stored(name)
 }
 
 // A used one has a valid name, of a used file in a directory, of which the types are given.
@@ -39,10 +39,10 @@ fn used_link(l: Link, of: FileType, above: FileType) -> bool
         && isDirectory above) ⌝ }
 {
     let name = l.name;
-    if !stored_names::well_stored(name) {
+    if !audit_names::well_stored(name) {
         return false;
     }
-    if !stored_names::valid_stored_name(name) {
+    if !audit_names::valid_stored_name(name) {
         return false;
     }
     is_used(of) && is_directory(above)

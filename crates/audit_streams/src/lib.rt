@@ -1,4 +1,8 @@
 // The audit of the streams table: each stream by itself, then every two used streams, then the streams of each file.
+use audit_names::is_unnamed;
+use audit_names::valid_stored_stream_name;
+use audit_names::well_stored;
+use audit_names::zero_name;
 use records::File;
 use records::FileType;
 use records::Stream;
@@ -9,11 +13,7 @@ use records::slots::file_used;
 use records::slots::is_directory;
 use records::slots::is_used;
 use records::slots::stream_used;
-use stored_names::is_unnamed;
 use stored_names::same_names;
-use stored_names::valid_stored_stream_name;
-use stored_names::well_stored;
-use stored_names::zero_name;
 ghost use Prim.Native.Nat.{ℕ, _<_};
 ghost use mathlib.Core.Path.{_≡_};
 ghost use mathlib.Core.Bool.{cond, not, _&&_, _||_};

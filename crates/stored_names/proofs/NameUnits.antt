@@ -1,24 +1,18 @@
--- Laws of stored names: their units by places, and the zeros after them.
-use Prim.Native.Nat.{ℕ, zero, suc, _+_, _-_, _≤_, _<_}
-use mathlib.Core.Path.{_≡_, refl, sym, ap, _∙_}
-use mathlib.Core.Bool.{Bool, true, false, _&&_}
-use mathlib.Core.List.{List, [], _∷_, _++_}
+-- Laws of stored names: their units by places.
+use Prim.Native.Nat.{ℕ, zero, suc, _+_, _≤_, _<_}
+use mathlib.Core.Path.{_≡_, refl, sym, _∙_}
+use mathlib.Core.Bool.{Bool, true, false}
+use mathlib.Core.List.{List, [], _∷_}
 use native.Mathlib.Numerals.{add-one}
 use native.Mathlib.Omega.{arith}
 use lib.Dec.{eqb}
-use lib.ListN.{length, getD, drop, drop-of-length-le, replicate, length-append}
+use lib.ListN.{length, getD, drop, drop-of-length-le}
 use borrow.Author.Tests.{eqb-true, eqb-false}
-use Rattle.lists.specs.Lists.{all, same, padded}
-use Rattle.lists.proofs.Scan.{drop-next, same-differs, same-tail, same-append}
+use Rattle.lists.specs.Lists.{same}
+use Rattle.lists.proofs.Scan.{drop-next, same-differs, same-tail}
 use Rattle.units.specs.Units.{folded, equalUnits}
 use Rattle.units.proofs.Compare.{equal-tail, equal-differs}
-use Rattle.stored_names.specs.StoredNames.{units, wellStored}
-
--- a place that holds a unit is one of the list's
-pub place-below : (n : List ℕ) (i : ℕ) → (getD n i 0 ≡ 0 → ⊥) → i < length n
-place-below [] i ne = absurd (ne refl)
-place-below (u ∷ us) zero ne = omega arith
-place-below (u ∷ us) (suc i) ne = omega (arith, place-below us i ne)
+use Rattle.stored_names.specs.StoredNames.{units}
 
 -- from a zero, or from the end on, there are no units
 pub units-end : (n : List ℕ) (i : ℕ) → getD n i 0 ≡ 0 → units (drop i n) ≡ []
@@ -89,31 +83,3 @@ module _ (fold : Bool) (name part : List ℕ) (i : ℕ) where
       go : (b : Bool) → eqb (getD name i 0) 0 ≡ b → equalUnits fold (units (drop i name)) [] ≡ b
       go true e = rw (units-end name i (eqb-true (getD name i 0) 0 e))
       go false e = rw (units-next name i (eqb-false (getD name i 0) 0 e))
-
--- a name is its units and what follows them
-pub units-prefix : (n : List ℕ) → units n ++ drop (length (units n)) n ≡ n
-unfolding units
-units-prefix [] = refl
-units-prefix (zero ∷ us) = refl
-units-prefix (suc u ∷ us) = ap (λ (l : List ℕ). suc u ∷ l) (units-prefix us)
-
-abbrev pub isZero : ℕ → Bool
-isZero u = eqb u 0
-
-zeros : (xs : List ℕ) → same xs (replicate (length xs) 0) ≡ all isZero xs
-unfolding same all
-zeros [] = refl
-zeros (x ∷ xs) = ap (λ (b : Bool). eqb x 0 && b) (zeros xs)
-
--- a name that has all its places is well stored when those after its units are zero
-pub well-stored : (n : List ℕ) (limit : ℕ) → length n ≡ limit → wellStored limit n ≡ all isZero (drop (length (units n)) n)
-unfolding wellStored padded
-well-stored n limit e =
-    let u = units n in
-    let t = drop (length u) n in
-    let split : u ++ t ≡ n = units-prefix n in
-    let rest : limit - length u ≡ length t = omega (arith, length-append u t, ap length split) in
-    ap (λ (l : List ℕ). same l (u ++ replicate (limit - length u) 0)) (sym split)
-    ∙ ap (λ (k : ℕ). same (u ++ t) (u ++ replicate k 0)) rest
-    ∙ same-append u t (replicate (length t) 0)
-    ∙ zeros t

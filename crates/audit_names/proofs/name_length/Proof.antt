@@ -1,13 +1,13 @@
--- `stored_names::name_length` meets its contract. The loop's invariant: the length is the places passed and the units left.
+-- `audit_names::name_length` meets its contract. The loop's invariant: the length is the places passed and the units left.
 use Prim.Native.Nat.{_+_, _≤_, _-_}
 use mathlib.Core.Path.{_≡_, ap}
 use native.Mathlib.Omega.{arith}
 use lib.ListN.{length, drop, List·getD-eq-default}
 use borrow.Author.Needs.{needs}
 use Rattle.stored_names.specs.StoredNames.{units}
 use Rattle.stored_names.proofs.NameUnits.{units-end, units-next}
-use Rattle.stored_names.proofs.name_length.Statement.{statement}
-use Rattle.stored_names.proofs.name_length.Tie as tie
+use Rattle.audit_names.proofs.name_length.Statement.{statement}
+use Rattle.audit_names.proofs.name_length.Tie as tie
 
 abbrev Inv-loop : tie.InvT-loop
 Inv-loop name i₀ i = (i ≤ 32) × (length (units name) ≡ i + length (units (drop i name)))

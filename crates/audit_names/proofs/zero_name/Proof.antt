@@ -1,11 +1,11 @@
--- `stored_names::zero_name` meets its contract: a name is all zero exactly where it is empty and well stored.
+-- `audit_names::zero_name` meets its contract: a name is all zero exactly where it is empty and well stored.
 use mathlib.Core.Path.{sym, _∙_}
 use native.Mathlib.Omega.{arith}
 use borrow.Author.Tests.{ne-eqb}
-use Rattle.stored_names.proofs.StoredUnits.{zeros-stored, zeros-not}
+use Rattle.audit_names.proofs.StoredUnits.{zeros-stored, zeros-not}
 use borrow.Author.Needs.{needs}
-use Rattle.stored_names.proofs.zero_name.Statement.{statement}
-use Rattle.stored_names.proofs.zero_name.Tie as tie
+use Rattle.audit_names.proofs.zero_name.Statement.{statement}
+use Rattle.audit_names.proofs.zero_name.Tie as tie
 
 array-read-if1 : tie.Need-array-read-if1
 array-read-if1 c = search needs

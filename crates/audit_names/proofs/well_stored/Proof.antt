@@ -1,4 +1,4 @@
--- `stored_names::well_stored` meets its contract. The loop's invariant: the answer is whether all places left are zero.
+-- `audit_names::well_stored` meets its contract. The loop's invariant: the answer is whether all places left are zero.
 use Prim.Native.Nat.{_-_}
 use mathlib.Core.Path.{_≡_, sym, _∙_}
 use native.Mathlib.Omega.{arith}
@@ -7,10 +7,10 @@ use borrow.Author.Needs.{needs}
 use borrow.Author.Tests.{eq-eqb, ne-eqb}
 use Rattle.lists.proofs.Scan.{all-fails, all-next, all-end}
 use Rattle.lists.specs.Lists.{all}
 use Rattle.stored_names.specs.StoredNames.{wellStored}
-use Rattle.stored_names.proofs.NameUnits.{isZero, well-stored}
-use Rattle.stored_names.proofs.well_stored.Statement.{statement}
-use Rattle.stored_names.proofs.well_stored.Tie as tie
+use Rattle.audit_names.proofs.StoredUnits.{isZero, well-stored}
+use Rattle.audit_names.proofs.well_stored.Statement.{statement}
+use Rattle.audit_names.proofs.well_stored.Tie as tie
 
 abbrev Inv-loop : tie.InvT-loop
 Inv-loop name at₀ at = wellStored 32 name ≡ all isZero (drop at name)

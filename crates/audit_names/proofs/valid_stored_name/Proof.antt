@@ -1,25 +1,15 @@
--- `stored_names::valid_stored_name` meets its contract: the part before the first zero is the name's units.
-use Prim.Native.Nat.{ℕ, _≤_}
+-- `audit_names::valid_stored_name` meets its contract: the part before the first zero is the name's units.
+use Prim.Native.Nat.{ℕ}
 use mathlib.Core.Path.{_≡_, sym, ap, _∙_}
-use mathlib.Core.List.{List}
 use native.Mathlib.Omega.{arith}
-use lib.ListN.{length, take, drop, length-append}
-use lib.Seq.{take-append-seam, length-take-le}
+use lib.ListN.{take}
+use lib.Seq.{length-take-le}
 use borrow.Author.Needs.{needs}
 use Rattle.records.specs.Sizes.{fileNameLimit}
 use Rattle.names.specs.Names.{validFileName}
-use Rattle.stored_names.specs.StoredNames.{units}
-use Rattle.stored_names.proofs.NameUnits.{units-prefix}
-use Rattle.stored_names.proofs.valid_stored_name.Statement.{statement}
-use Rattle.stored_names.proofs.valid_stored_name.Tie as tie
-
-units-taken : (n : List ℕ) → take (length (units n)) n ≡ units n
-units-taken n =
-    ap (take (length (units n))) (sym (units-prefix n)) ∙ take-append-seam (units n) (drop (length (units n)) n)
-
-units-fit : (n : List ℕ) → length (units n) ≤ length n
-units-fit n =
-    omega (arith, length-append (units n) (drop (length (units n)) n), ap length (units-prefix n))
+use Rattle.audit_names.proofs.StoredUnits.{units-taken, units-fit}
+use Rattle.audit_names.proofs.valid_stored_name.Statement.{statement}
+use Rattle.audit_names.proofs.valid_stored_name.Tie as tie
 
 name-length-requires : tie.Need-name-length-requires
 name-length-requires c κs = search needs

@@ -1,0 +1,66 @@
+-- A stored name's units: they are a part of it, there are none exactly where the first place is zero, and the places after
+-- them are zero exactly where the name is well stored.
+use Prim.Native.Nat.{ℕ, zero, suc, _-_, _≤_, _<_}
+use mathlib.Core.Path.{_≡_, refl, sym, ap, _∙_}
+use mathlib.Core.Bool.{Bool, false, _&&_}
+use mathlib.Core.List.{List, [], _∷_, _++_}
+use native.Mathlib.Omega.{arith}
+use lib.Dec.{eqb, eqb·suc-zero}
+use lib.ListN.{length, getD, take, drop, replicate, length-append}
+use lib.Seq.{take-append-seam}
+use Rattle.lists.specs.Lists.{all, same, isEmpty, padded}
+use Rattle.lists.proofs.Scan.{same-differs, same-append}
+use Rattle.stored_names.specs.StoredNames.{units, wellStored}
+use Rattle.stored_names.proofs.NameUnits.{units-end}
+
+-- a name is its units and what follows them
+units-prefix : (n : List ℕ) → units n ++ drop (length (units n)) n ≡ n
+unfolding units
+units-prefix [] = refl
+units-prefix (zero ∷ us) = refl
+units-prefix (suc u ∷ us) = ap (λ (l : List ℕ). suc u ∷ l) (units-prefix us)
+
+module _ (n : List ℕ) where
+  pub units-taken : take (length (units n)) n ≡ units n
+  units-taken = ap (take (length (units n))) (sym (units-prefix n)) ∙ take-append-seam (units n) (drop (length (units n)) n)
+
+  pub units-fit : length (units n) ≤ length n
+  units-fit = omega (arith, length-append (units n) (drop (length (units n)) n), ap length (units-prefix n))
+
+-- the empty name
+pub units-empty : (n : List ℕ) → isEmpty (units n) ≡ eqb (getD n 0 0) 0
+unfolding isEmpty units
+units-empty [] = refl
+units-empty (zero ∷ us) = refl
+units-empty (suc u ∷ us) = sym (eqb·suc-zero u)
+
+abbrev pub isZero : ℕ → Bool
+isZero u = eqb u 0
+
+zeros : (xs : List ℕ) → same xs (replicate (length xs) 0) ≡ all isZero xs
+unfolding same all
+zeros [] = refl
+zeros (x ∷ xs) = ap (λ (b : Bool). eqb x 0 && b) (zeros xs)
+
+-- a name that has all its places is well stored when those after its units are zero
+pub well-stored : (n : List ℕ) (limit : ℕ) → length n ≡ limit → wellStored limit n ≡ all isZero (drop (length (units n)) n)
+unfolding wellStored padded
+well-stored n limit e =
+    let u = units n in
+    let t = drop (length u) n in
+    let split : u ++ t ≡ n = units-prefix n in
+    let rest : limit - length u ≡ length t = omega (arith, length-append u t, ap length split) in
+    ap (λ (l : List ℕ). same l (u ++ replicate (limit - length u) 0)) (sym split)
+    ∙ ap (λ (k : ℕ). same (u ++ t) (u ++ replicate k 0)) rest
+    ∙ same-append u t (replicate (length t) 0)
+    ∙ zeros t
+
+-- a name is all zero exactly where it is empty and well stored
+pub zeros-stored : (limit : ℕ) (n : List ℕ) → getD n 0 0 ≡ 0 → wellStored limit n ≡ same n (replicate limit 0)
+unfolding wellStored padded
+zeros-stored limit n e = rw (wellStored, units-end n 0 e, padded) (ap (λ (k : ℕ). same n (replicate k 0)) (let z : limit - 0 ≡ limit = omega arith in z))
+
+pub zeros-not : (limit : ℕ) (n : List ℕ) → 0 < limit → (getD n 0 0 ≡ 0 → ⊥) → same n (replicate limit 0) ≡ false
+zeros-not zero n h e = absurd (let z : ⊥ = omega arith in z)
+zeros-not (suc limit) [] h e = absurd (e refl)
+zeros-not (suc limit) (u ∷ us) h e = same-differs u 0 us (replicate limit 0) e
