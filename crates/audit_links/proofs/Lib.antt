@@ -1,2 +1,1 @@
-mod ParentsScan
 mod LinksScan

@@ -19,7 +19,7 @@ use Rattle.records.specs.declared.FileNo.{FileNo}
 use Rattle.records.specs.declared.File.{File}
 use Rattle.records.specs.declared.Link.{Link}
 use Rattle.consistency.specs.Test.{freeLink, usedLink, linkNamesDiffer}
-use Rattle.audit_links.proofs.ParentsScan.{slotTest}
+use Rattle.audit_parents.proofs.ParentsScan.{slotTest}
 
 -- a name without a first unit is well stored exactly when it is all zero
 pub free-name : (l : Link) → linkUsed l ≡ false → wellStored fileNameLimit (l .name) ≡ same (l .name) (replicate fileNameLimit 0)

@@ -1,7 +1,6 @@
-// The audit of the links table: each link by itself, then all pairs, then the links and the parents of each file.
-mod parents;
-
-use crate::parents::files_linked;
+// The audit of the links table: each link by itself, then all pairs, then the links and the parents of each file
+// (`audit_parents`).
+use audit_parents::files_linked;
 use records::FileType;
 use records::Link;
 use records::Volume;

@@ -10,7 +10,7 @@ use Rattle.lists.proofs.Scan.{all-end, all-fails}
 use Rattle.lists.proofs.Passes.{pass-stops, pass-next}
 use Rattle.records.proofs.Lengths.{files-length, links-length}
 use Rattle.records.proofs.Elements.{arraylessFile, arraylessLink}
-use Rattle.audit_links.proofs.ParentsScan.{slotTest}
+use Rattle.audit_parents.proofs.ParentsScan.{slotTest}
 use Rattle.audit_links.proofs.LinksScan.{past-file, past-parent, slot-is}
 use Rattle.audit_links.proofs.slots_consistent.Statement.{statement}
 use Rattle.audit_links.proofs.slots_consistent.Tie as tie

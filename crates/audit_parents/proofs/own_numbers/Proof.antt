@@ -1,4 +1,4 @@
--- `audit_links::parents::own_numbers` meets its contract. The invariant: each place below i has its own number.
+-- `audit_parents::own_numbers` meets its contract. The invariant: each place below i has its own number.
 use Prim.Native.Nat.{ℕ, _-_, _≤_, _<_}
 use mathlib.Core.Path.{_≡_, _∙_}
 use native.Mathlib.Omega.{arith}
@@ -6,8 +6,8 @@ use lib.ListN.{length, getD, length-set}
 use lib.Seq.{getD-set-same, getD-set-other}
 use borrow.Author.Count.{below-more}
 use borrow.Author.Needs.{needs}
-use Rattle.audit_links.proofs.parents.own_numbers.Statement.{statement}
-use Rattle.audit_links.proofs.parents.own_numbers.Tie as tie
+use Rattle.audit_parents.proofs.own_numbers.Statement.{statement}
+use Rattle.audit_parents.proofs.own_numbers.Tie as tie
 
 abbrev Inv-loop : tie.InvT-loop
 Inv-loop numbers₀ i₀ numbers i = (i ≤ 128) × (length numbers ≡ 128) × ((n : ℕ) → n < i → getD numbers n 0 ≡ n)

@@ -1,4 +1,4 @@
--- `audit_links::parents::leads_to_root` meets its contract. The invariant: what is asked is whether the root is at
+-- `audit_parents::leads_to_root` meets its contract. The invariant: what is asked is whether the root is at
 -- most as many steps above the present file as are left.
 use Prim.Native.Nat.{ℕ, _≤_, _<_}
 use mathlib.Core.Path.{_≡_, refl, sym, ap, _∙_}
@@ -9,9 +9,9 @@ use borrow.Author.Needs.{needs}
 use Rattle.records.specs.declared.FileNo.{FileNo}
 use Rattle.records.specs.declared.Link.{Link}
 use Rattle.consistency.specs.Relations.{parentOf, reaches}
-use Rattle.audit_links.proofs.ParentsScan.{up-here, up-next}
-use Rattle.audit_links.proofs.parents.leads_to_root.Statement.{statement}
-use Rattle.audit_links.proofs.parents.leads_to_root.Tie as tie
+use Rattle.audit_parents.proofs.ParentsScan.{up-here, up-next}
+use Rattle.audit_parents.proofs.leads_to_root.Statement.{statement}
+use Rattle.audit_parents.proofs.leads_to_root.Tie as tie
 
 -- the table has the parents, and none is past its end
 abbrev Parents : List ℕ → List Link → Type 0

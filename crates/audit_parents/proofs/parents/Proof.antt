@@ -1,5 +1,4 @@
--- `audit_links::parents::parents` meets its contract. The invariant: the table has the parents by the links from i
--- on.
+-- `audit_parents::parents` meets its contract. The invariant: the table has the parents by the links from i on.
 use Prim.Native.Nat.{ℕ, _-_, _≤_}
 use mathlib.Core.Path.{_≡_, sym, ap, _∙_}
 use mathlib.Core.List.{List}
@@ -12,9 +11,9 @@ use Rattle.records.specs.declared.Link.{Link}
 use Rattle.records.proofs.Lengths.{links-length}
 use Rattle.records.proofs.Elements.{arraylessLink}
 use Rattle.consistency.specs.Relations.{parentOf}
-use Rattle.audit_links.proofs.ParentsScan.{Noted, noted-skip, noted-set, names-it, parent-here, parent-other}
-use Rattle.audit_links.proofs.parents.parents.Statement.{statement}
-use Rattle.audit_links.proofs.parents.parents.Tie as tie
+use Rattle.audit_parents.proofs.ParentsScan.{Noted, noted-skip, noted-set, names-it, parent-here, parent-other}
+use Rattle.audit_parents.proofs.parents.Statement.{statement}
+use Rattle.audit_parents.proofs.parents.Tie as tie
 
 abbrev above : FileNo → List Link → ℕ
 above f ls = parentOf ls f .0

@@ -1,5 +1,4 @@
--- `audit_links::parents::files_linked` meets its contract. The invariant: what is asked is what the rest of the
--- files say.
+-- `audit_parents::files_linked` meets its contract. The invariant: what is asked is what the rest of the files say.
 use Prim.Native.Nat.{ℕ, _-_, _<_}
 use mathlib.Core.Path.{_≡_, sym, _∙_}
 use mathlib.Core.Bool.{Bool, true}
@@ -19,9 +18,9 @@ use Rattle.records.proofs.Lengths.{files-length}
 use Rattle.records.proofs.Elements.{arraylessFile}
 use Rattle.consistency.specs.Relations.{parentOf}
 use Rattle.consistency.specs.Test.{linksOfFile}
-use Rattle.audit_links.proofs.ParentsScan.{slotTest, parent-in, unused-passes, wrong-count, right-count}
-use Rattle.audit_links.proofs.parents.files_linked.Statement.{statement}
-use Rattle.audit_links.proofs.parents.files_linked.Tie as tie
+use Rattle.audit_parents.proofs.ParentsScan.{slotTest, parent-in, unused-passes, wrong-count, right-count}
+use Rattle.audit_parents.proofs.files_linked.Statement.{statement}
+use Rattle.audit_parents.proofs.files_linked.Tie as tie
 
 -- a file's test with its number
 abbrev fileTest : Volume → ℕ → File → Bool

@@ -1,5 +1,4 @@
--- `audit_links::parents::link_counts` meets its contract. The invariant: the table has the counts of the links
--- from i on.
+-- `audit_parents::link_counts` meets its contract. The invariant: the table has the counts of the links from i on.
 use Prim.Native.Nat.{ℕ, _+_, _-_, _≤_}
 use mathlib.Core.Path.{_≡_, refl, sym, ap, _∙_}
 use mathlib.Core.List.{List}
@@ -14,9 +13,9 @@ use Rattle.records.specs.declared.Link.{Link}
 use Rattle.records.proofs.Lengths.{links-length}
 use Rattle.records.proofs.Elements.{arraylessLink}
 use Rattle.consistency.specs.Relations.{linkTo}
-use Rattle.audit_links.proofs.ParentsScan.{Noted, noted-skip, noted-set, count-other, count-more}
-use Rattle.audit_links.proofs.parents.link_counts.Statement.{statement}
-use Rattle.audit_links.proofs.parents.link_counts.Tie as tie
+use Rattle.audit_parents.proofs.ParentsScan.{Noted, noted-skip, noted-set, count-other, count-more}
+use Rattle.audit_parents.proofs.link_counts.Statement.{statement}
+use Rattle.audit_parents.proofs.link_counts.Tie as tie
 
 abbrev linksTo : FileNo → List Link → ℕ
 linksTo f ls = count (linkTo f) ls
