@@ -1,19 +1,16 @@
-// The lowest free slot of each table, and whether a file has an open.
+// The lowest free slot of each table of the volume.
 use records::FileNo;
 use records::LinkNo;
-use records::OpenTable;
 use records::StreamNo;
 use records::Volume;
 use records::sizes::FILE_SLOTS;
 use records::sizes::LINK_SLOTS;
-use records::sizes::OPEN_SLOTS;
 use records::sizes::STREAM_SLOTS;
 use records::slots::file_used;
 use records::slots::link_used;
-use records::slots::open_used;
 use records::slots::stream_used;
 ghost use mathlib.Core.Path.{_≡_};
-ghost use Rattle.free_slots.specs.Free.{freeFile, freeLink, freeStream, freeOpen, fileHasOpen};
+ghost use Rattle.free_slots.specs.Free.{freeFile, freeLink, freeStream};
 
 // What a search for a free slot finds: the lowest one, or that the table is full.
 pub enum FileSlot {
@@ -28,12 +25,6 @@ pub enum LinkSlot {
 
 pub enum StreamSlot {
     At(StreamNo),
-    Full,
-}
-
-// A row of the open table has no number of its own kind: handles come from elsewhere.
-pub enum OpenSlot {
-    At(usize),
     Full,
 }
 
@@ -81,33 +72,4 @@ pub fn free_stream(v: Volume, from: usize) -> StreamSlot
         i += 1;
     }
     StreamSlot::Full
-}
-
-pub fn free_open(t: OpenTable) -> OpenSlot
-    ensures { λ r. ⌜ r ≡ freeOpen t ⌝ }
-{
-    let mut i: usize = 0;
-    while i < OPEN_SLOTS {
-        let o = t.rows[i];
-        if !open_used(o) {
-            return OpenSlot::At(i);
-        }
-        i += 1;
-    }
-    OpenSlot::Full
-}
-
-// Some open, counted or not, is on the file.
-pub fn file_has_open(t: OpenTable, f: FileNo) -> bool
-    ensures { λ r. ⌜ r ≡ fileHasOpen t f ⌝ }
-{
-    let mut i: usize = 0;
-    while i < OPEN_SLOTS {
-        let o = t.rows[i];
-        if open_used(o) && o.file.0 == f.0 {
-            return true;
-        }
-        i += 1;
-    }
-    false
 }

@@ -17,3 +17,4 @@ pub mod Pigeonhole
 pub mod Writes
 pub mod Sweeps
 pub mod Lookups
+pub mod Searches

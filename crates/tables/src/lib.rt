@@ -3,22 +3,16 @@ use records::File;
 use records::FileNo;
 use records::Link;
 use records::LinkNo;
-use records::Open;
-use records::OpenTable;
 use records::Stream;
 use records::StreamNo;
 use records::Volume;
 use records::sizes::FILE_SLOTS;
 use records::sizes::LINK_SLOTS;
-use records::sizes::OPEN_SLOTS;
 use records::sizes::STREAM_SLOTS;
 use records::slots::ZERO_FILE;
 use records::slots::ZERO_LINK;
-use records::slots::ZERO_OPEN;
 use records::slots::ZERO_STREAM;
 ghost use mathlib.Core.Path.{_≡_};
-ghost use lib.ListN.{getD};
-ghost use Rattle.records.specs.Slots.{zeroOpen};
 ghost use Rattle.tables.specs.Tables.{fileAt, linkAt, streamAt};
 
 pub fn file_at(v: Volume, n: FileNo) -> File
@@ -52,10 +46,4 @@ pub fn stream_at(v: Volume, n: StreamNo) -> Stream
     } else {
         ZERO_STREAM
     }
-}
-
-pub fn open_at(t: OpenTable, n: usize) -> Open
-    ensures { λ r. ⌜ r ≡ getD (t .rows) n zeroOpen ⌝ }
-{
-    if n < OPEN_SLOTS { t.rows[n] } else { ZERO_OPEN }
 }

@@ -7,7 +7,7 @@ use Rattle.lists.specs.Lists.{firstAfter}
 use Rattle.records.specs.Slots.{fileUsed}
 use Rattle.free_slots.specs.Free.{fileSlot, freeFile}
 use Rattle.records.proofs.Lengths.{files-length}
-use Rattle.free_slots.proofs.Searches.{freeFrom, free-here, free-next, free-none}
+use Rattle.lists.proofs.Searches.{freeFrom, free-here, free-next, free-none}
 use Rattle.free_slots.proofs.free_file.Statement.{statement}
 use Rattle.free_slots.proofs.free_file.Tie as tie
 

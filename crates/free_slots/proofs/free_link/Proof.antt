@@ -7,7 +7,7 @@ use Rattle.lists.specs.Lists.{firstAfter}
 use Rattle.records.specs.Slots.{linkUsed}
 use Rattle.free_slots.specs.Free.{linkSlot, freeLink}
 use Rattle.records.proofs.Lengths.{links-length}
-use Rattle.free_slots.proofs.Searches.{freeFrom, free-here, free-next, free-none}
+use Rattle.lists.proofs.Searches.{freeFrom, free-here, free-next, free-none}
 use Rattle.free_slots.proofs.free_link.Statement.{statement}
 use Rattle.free_slots.proofs.free_link.Tie as tie
 

@@ -7,7 +7,7 @@ use Rattle.lists.specs.Lists.{firstAfter}
 use Rattle.records.specs.Slots.{streamUsed}
 use Rattle.free_slots.specs.Free.{streamSlot, freeStream}
 use Rattle.records.proofs.Lengths.{streams-length}
-use Rattle.free_slots.proofs.Searches.{freeFrom, free-here, free-next, free-none}
+use Rattle.lists.proofs.Searches.{freeFrom, free-here, free-next, free-none}
 use Rattle.free_slots.proofs.free_stream.Statement.{statement}
 use Rattle.free_slots.proofs.free_stream.Tie as tie
 

@@ -1,12 +1,13 @@
--- `tables::open_at` meets its contract: past the table's end the definition says the record of a free slot.
+-- `open_table::open_at` meets its contract: past the table's end the definition says the record of a free slot.
 use mathlib.Core.Path.{sym}
 use native.Mathlib.Omega.{arith}
 use lib.ListN.{List·getD-eq-default}
 use borrow.Author.Needs.{needs}
 use Rattle.records.proofs.Lengths.{rows-length}
 use Rattle.records.specs.Slots.{zeroOpen}
-use Rattle.tables.proofs.open_at.Statement.{statement}
-use Rattle.tables.proofs.open_at.Tie as tie
+use Rattle.open_table.specs.Rows.{openAt}
+use Rattle.open_table.proofs.open_at.Statement.{statement}
+use Rattle.open_table.proofs.open_at.Tie as tie
 
 mul-result : tie.Need-mul-result
 mul-result c = search needs
@@ -15,9 +16,11 @@ element-copy-out-result : tie.Need-element-copy-out-result
 element-copy-out-result c = search needs
 
 returns : tie.Need-returns
+unfolding openAt
 returns c = search needs
 
 returns-2 : tie.Need-returns-2
+unfolding openAt
 returns-2 c =
     let a = c .before in
     let h = rows-length (a .args .t1) _ (a .good .0) in

@@ -1,15 +1,15 @@
--- `free_slots::free_open` meets its contract. The invariant: what is sought is what the rest of the table gives.
+-- `open_table::free_open` meets its contract. The invariant: what is sought is what the rest of the table gives.
 use Prim.Native.Nat.{_-_}
 use mathlib.Core.Path.{_≡_, refl, sym, _∙_}
 use native.Mathlib.Omega.{arith}
 use borrow.Author.Needs.{needs}
 use Rattle.lists.specs.Lists.{firstAfter}
 use Rattle.records.specs.Slots.{openUsed}
-use Rattle.free_slots.specs.Free.{openSlot, freeOpen}
+use Rattle.open_table.specs.Rows.{openSlot, freeOpen}
 use Rattle.records.proofs.Lengths.{rows-length}
-use Rattle.free_slots.proofs.Searches.{freeFrom, free-here, free-next, free-none}
-use Rattle.free_slots.proofs.free_open.Statement.{statement}
-use Rattle.free_slots.proofs.free_open.Tie as tie
+use Rattle.lists.proofs.Searches.{freeFrom, free-here, free-next, free-none}
+use Rattle.open_table.proofs.free_open.Statement.{statement}
+use Rattle.open_table.proofs.free_open.Tie as tie
 
 abbrev Inv-loop : tie.InvT-loop
 Inv-loop t i₀ i = freeOpen t ≡ freeFrom openSlot openUsed (t .rows) i

@@ -1,4 +1,4 @@
--- `free_slots::file_has_open` meets its contract. The invariant: what is asked is what the rest of the table says.
+-- `open_table::file_has_open` meets its contract. The invariant: what is asked is what the rest of the table says.
 use Prim.Native.Nat.{_-_}
 use mathlib.Core.Path.{_≡_, refl, sym, _∙_}
 use mathlib.Core.Bool.{Bool, _&&_}
@@ -10,12 +10,12 @@ use borrow.Author.Needs.{needs}
 use Rattle.lists.specs.Lists.{any}
 use Rattle.lists.proofs.First.{any-here, any-next, any-none}
 use Rattle.records.specs.Slots.{openUsed, zeroOpen}
-use Rattle.free_slots.specs.Free.{fileHasOpen}
+use Rattle.open_table.specs.Rows.{fileHasOpen}
 use Rattle.records.specs.declared.FileNo.{FileNo}
 use Rattle.records.specs.declared.Open.{Open}
 use Rattle.records.proofs.Lengths.{rows-length}
-use Rattle.free_slots.proofs.file_has_open.Statement.{statement}
-use Rattle.free_slots.proofs.file_has_open.Tie as tie
+use Rattle.open_table.proofs.file_has_open.Statement.{statement}
+use Rattle.open_table.proofs.file_has_open.Tie as tie
 
 abbrev on : FileNo → Open → Bool
 on f o = openUsed o && eqb (o .file .0) (f .0)
