@@ -20,9 +20,10 @@ use Rattle.records.specs.declared.LinkNo.{LinkNo}
 use Rattle.records.specs.declared.File.{File}
 use Rattle.records.specs.declared.Link.{Link}
 use Rattle.records.specs.declared.Volume.{Volume}
-use Rattle.paths.specs.Paths.{Leaf, components}
-use Rattle.paths.specs.Positions.{nextComponent, partOf}
-use Rattle.paths.proofs.Places.{next-found, next-none}
+use Rattle.components.specs.Components.{components}
+use Rattle.components.specs.Positions.{nextComponent, partOf}
+use Rattle.components.proofs.Places.{next-found, next-none}
+use Rattle.paths.specs.Paths.{Leaf}
 use Rattle.lookup.specs.Lookup.{findLink, stepInto, descend, Place, found, missing, placeOf, locateLeaf, locate}
 use Rattle.lookup.specs.Answers.{lastStep, walkEnds, walkedFrom}
 use Rattle.lookup.specs.declared.walk.FoundFile.{FoundFile}

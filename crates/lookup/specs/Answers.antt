@@ -7,8 +7,9 @@ use Rattle.records.specs.Namespace.{Namespace}
 use Rattle.records.specs.Checked.{Checked, refused, passed, _>>=_}
 use Rattle.records.specs.declared.FileNo.{FileNo}
 use Rattle.records.specs.declared.LinkNo.{LinkNo}
+use Rattle.components.specs.Positions.{parentsOf}
 use Rattle.paths.specs.Paths.{Path, Leaf}
-use Rattle.paths.specs.Positions.{asLeaf, asPath, parentsOf}
+use Rattle.paths.specs.Positions.{asLeaf, asPath}
 use Rattle.paths.specs.declared.LeafParts.{LeafParts}
 use Rattle.paths.specs.declared.ParsedPath.{ParsedPath}
 use Rattle.paths.specs.declared.ParsedPath.the-variants.{Invalid, Root, Named}

@@ -1,12 +1,12 @@
 // The walk through a path's components (step 6).
 use crate::Located;
 use crate::Walked;
+use components::Part;
+use components::next_component;
+use components::part_of;
+use components::units_before;
 use paths::LeafParts;
 use paths::ParsedPath;
-use paths::Part;
-use paths::next_component;
-use paths::part_of;
-use paths::units_before;
 use records::File;
 use records::FileNo;
 use records::Link;
@@ -21,7 +21,8 @@ use tables::link_at;
 ghost use mathlib.Core.Path.{_≡_};
 ghost use Rattle.records.specs.Slots.{root, isDirectory};
 ghost use Rattle.records.specs.Namespace.{namespace};
-ghost use Rattle.paths.specs.Positions.{partOf, parentsOf, asLeaf};
+ghost use Rattle.components.specs.Positions.{partOf, parentsOf};
+ghost use Rattle.paths.specs.Positions.{asLeaf};
 ghost use Rattle.lookup.specs.Lookup.{linkMatches, locate};
 ghost use Rattle.lookup.specs.Answers.{walkedFrom, asPlace, pathTo, leafNames, locateParsed};
 

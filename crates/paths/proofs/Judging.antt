@@ -11,7 +11,8 @@ use Rattle.records.specs.Checked.{Checked, refused, passed, _>>=_, _>>_, refuse
 use Rattle.records.specs.declared.Status.the-variants.{ObjectNameInvalid}
 use Rattle.units.specs.Units.{backslash, colon}
 use Rattle.names.specs.Names.{validFileName, validStreamName}
-use Rattle.paths.specs.Paths.{Leaf, Path, split, leafOf, components, endsIn, validLeaf, checkedLeaf, parseComponents, parsePath}
+use Rattle.components.specs.Components.{split, components}
+use Rattle.paths.specs.Paths.{Leaf, Path, leafOf, endsIn, validLeaf, checkedLeaf, parseComponents, parsePath}
 use Rattle.paths.specs.Positions.{named, checked}
 
 -- the last component

@@ -15,7 +15,8 @@ use Rattle.records.specs.declared.Status.the-variants.{ObjectNameInvalid}
 use Rattle.records.proofs.Checked.{refused≢passed, passed-same, bind-passed, test-passed}
 use Rattle.units.specs.Units.{backslash, colon, dataType, equalUnits}
 use Rattle.names.specs.Names.{validFileName, validStreamName}
-use Rattle.paths.specs.Paths.{Leaf, Path, split, components, endsIn, leafOf, validLeaf, checkedLeaf, parseComponents, parsePath}
+use Rattle.components.specs.Components.{split, components}
+use Rattle.paths.specs.Paths.{Leaf, Path, endsIn, leafOf, validLeaf, checkedLeaf, parseComponents, parsePath}
 
 pub record LeafFits (wantsDirectory : Bool) (l : Leaf) : Type 0 where
   pub fileValid : validFileName fileNameLimit (l .file) ≡ true

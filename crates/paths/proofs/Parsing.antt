@@ -1,21 +1,22 @@
--- Laws of step 4: a component by its colons, the components in order, and the end of a path.
+-- Laws of step 4: a component by its colons, and the end of a path.
 use Prim.Native.Nat.{ℕ, suc, _+_, _-_, _≤_, _<_}
-use mathlib.Core.Path.{_≡_, refl, sym, ap, _∙_}
+use mathlib.Core.Path.{_≡_, refl, ap, _∙_}
 use mathlib.Core.Bool.{Bool, true, false, not, cond, _&&_, false≢true}
 use mathlib.Core.List.{List, [], _∷_, map}
 use mathlib.Core.Option.{Option, none, some}
 use native.Mathlib.Omega.{arith}
 use lib.Dec.{eqb, ltb}
-use lib.ListN.{length, getD, take, drop, length-drop}
-use lib.Seq.{slice, slice-empty, drop-cons, take-all}
+use lib.ListN.{length, getD, take, drop}
+use lib.Seq.{slice, slice-empty}
 use borrow.Author.Tests.{eqb-true, ltb-true, ltb-false}
 use Rattle.lists.specs.Lists.{all, isEmpty}
 use Rattle.lists.proofs.Tests.{same-is}
 use Rattle.units.specs.Units.{colon, dataType, upper, folded, equalUnits}
-use Rattle.paths.specs.Paths.{Leaf, split, leafOf, endsIn}
-use Rattle.paths.specs.Positions.{leading, noSign, placeOf}
-use Rattle.paths.proofs.Leading.{leading-le, slice-take, slice-drop}
-use Rattle.paths.proofs.Splitting.{split-first, split-one, splitRest, not-empty}
+use Rattle.components.specs.Components.{split}
+use Rattle.components.specs.Positions.{leading, noSign, placeOf}
+use Rattle.components.proofs.Splitting.{split-first, split-one, split-more}
+use Rattle.components.proofs.Places.{split-last, split-found, part-some}
+use Rattle.paths.specs.Paths.{Leaf, leafOf, endsIn}
 
 -- the last unit
 
@@ -31,50 +32,6 @@ ends-last sign (u ∷ []) ne = refl
 ends-last sign (u ∷ v ∷ us) ne =
     let e : suc (suc (length us)) - 1 ≡ suc (suc (length us) - 1) = omega arith in
     rw e (ends-last sign (v ∷ us) (λ z. omega arith))
-
--- a part of a path, split where its first sign was found
-
-split-more : (sign : ℕ) (us : List ℕ) → leading (noSign sign) us < length us → split sign us ≡ take (leading (noSign sign) us) us ∷ split sign (drop (suc (leading (noSign sign) us)) us)
-split-more sign us h =
-    let m = leading (noSign sign) us in
-    split-first sign us ∙ ap (λ (l : List ℕ). take m us ∷ splitRest sign l) (drop-cons us m 0 h)
-
--- from s up to e, where the code searched the units before e and found the sign, or the end, at k
-module _ (sign : ℕ) (path : List ℕ) (s e k : ℕ) {units : List ℕ} (before : units ≡ take e path) (found : k ≡ placeOf sign units s) where
-  count : ℕ
-  count = leading (noSign sign) (slice s e path)
-
-  place : k ≡ s + count
-  unfolding count placeOf
-  place = found ∙ ap (λ (l : List ℕ). s + leading (noSign sign) (drop s l)) before
-
-  size : length (slice s e path) ≡ length units - s
-  size = length-drop s (take e path) ∙ ap (λ (l : List ℕ). length l - s) (sym before)
-
-  first-part : take count (slice s e path) ≡ slice s k path
-  unfolding count
-  first-part =
-      slice-take s e count path (leading-le (noSign sign) (slice s e path))
-      ∙ ap (λ (n : ℕ). slice s n path) (sym place)
-
-  split-last : length units ≤ k → split sign (slice s e path) ≡ slice s k path ∷ []
-  unfolding count
-  split-last h =
-      let whole : length (slice s e path) ≤ count = omega (arith, place, size) in
-      split-one sign (slice s e path) whole
-      ∙ ap (λ (l : List ℕ). l ∷ []) (sym (take-all count (slice s e path) whole) ∙ first-part)
-
-  split-found : k < length units → split sign (slice s e path) ≡ slice s k path ∷ split sign (slice (k + 1) e path)
-  unfolding count
-  split-found h =
-      let rest : s + suc count ≡ k + 1 = omega (arith, place) in
-      split-more sign (slice s e path) (omega (arith, place, size))
-      ∙ ap (λ (l : List ℕ). l ∷ split sign (drop (suc count) (slice s e path))) first-part
-      ∙ ap (λ (l : List ℕ). slice s k path ∷ split sign l) (slice-drop s e (suc count) path ∙ ap (λ (n : ℕ). slice n e path) rest)
-
-  part-some : (s ≡ k → ⊥) → isEmpty (slice s k path) ≡ false
-  unfolding count
-  part-some ne = rw (← first-part) (not-empty (noSign sign) (slice s e path) (λ z. ne (omega (arith, place))))
 
 and-true : (a b : Bool) → (a && b) ≡ true → (a ≡ true) × (b ≡ true)
 and-true true b h = (refl, h)

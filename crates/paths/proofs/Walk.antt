@@ -10,11 +10,13 @@ use Rattle.records.specs.Checked.{refused, passed, _>>=_}
 use Rattle.records.specs.declared.Status.the-variants.{ObjectNameInvalid}
 use Rattle.units.specs.Units.{backslash, colon}
 use Rattle.names.specs.Names.{validFileName}
-use Rattle.paths.specs.Paths.{split, leafOf, components, parseComponents}
-use Rattle.paths.specs.Positions.{placeOf, partOf, nextComponent, checked}
-use Rattle.paths.specs.declared.Part.{Part}
-use Rattle.paths.proofs.Splitting.{Open}
-use Rattle.paths.proofs.Places.{next-found, next-none, first-open, first-parents, next-open, next-parents}
+use Rattle.components.specs.Components.{split, components}
+use Rattle.components.specs.Positions.{placeOf, partOf, nextComponent}
+use Rattle.components.specs.declared.Part.{Part}
+use Rattle.components.proofs.Splitting.{Open}
+use Rattle.components.proofs.Places.{next-found, next-none, first-open, first-parents, next-open, next-parents}
+use Rattle.paths.specs.Paths.{leafOf, parseComponents}
+use Rattle.paths.specs.Positions.{checked}
 use Rattle.paths.proofs.Judging.{prefixed, prefixed-nil, prefixed-twice, prefixed-last, parse-more, parse-bad}
 
 -- at a component: it is not empty, it ends where the next separator stands, the path may be cut before it, and the

@@ -1,16 +1,18 @@
--- Step 4: a path taken apart, with every refusal of OBJECT_NAME_INVALID.
+-- Step 4: a path taken apart, with every refusal of OBJECT_NAME_INVALID. `split` and `components` are definitions of the
+-- crate components.
 use Prim.Native.Nat.{ℕ}
 use mathlib.Core.Bool.{Bool, true, false, cond, not, _&&_}
 use mathlib.Core.List.{List, [], _∷_}
 use mathlib.Core.Option.{Option, none, some}
 use lib.Dec.{eqb, leb}
 use lib.ListN.{length}
-use Rattle.lists.specs.Lists.{all, isEmpty, keep}
+use Rattle.lists.specs.Lists.{isEmpty}
 use Rattle.records.specs.Sizes.{fileNameLimit, streamNameLimit, pathLimit}
 use Rattle.records.specs.Checked.{Checked, refused, passed, _>>=_, _>>_, refuseIf}
 use Rattle.records.specs.declared.Status.the-variants.{ObjectNameInvalid}
 use Rattle.units.specs.Units.{backslash, colon, dataType, equalUnits}
 use Rattle.names.specs.Names.{validFileName, validStreamName}
+use Rattle.components.specs.Components.{split, components}
 
 -- the last component: its file name, its stream name, and whether it has a colon
 pub record Leaf : Type 0 where
@@ -22,19 +24,6 @@ pub record Leaf : Type 0 where
 pub record Path : Type 0 where
   pub parents : List (List ℕ)
   pub leaf : Option Leaf
-
--- the parts of a list between separators, one more than there are separators
-unfoldable pub startPart : ℕ → List (List ℕ) → List (List ℕ)
-startPart u [] = (u ∷ []) ∷ []
-startPart u (part ∷ parts) = (u ∷ part) ∷ parts
-
-unfoldable pub split : ℕ → List ℕ → List (List ℕ)
-split sep [] = [] ∷ []
-split sep (u ∷ us) = let rest = split sep us in cond (eqb u sep) ([] ∷ rest) (startPart u rest)
-
--- backslashes separate; empty components vanish
-unfoldable pub components : List ℕ → List (List ℕ)
-components path = keep (λ c. not (isEmpty c)) (split backslash path)
 
 unfoldable pub endsIn : ℕ → List ℕ → Bool
 endsIn sign [] = false

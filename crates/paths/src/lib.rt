@@ -1,14 +1,20 @@
 // Paths: how one is taken apart (step 4 of an open). A place is a number of units from the path's start.
+use components::Part;
+use components::find_sign;
+use components::next_component;
+use components::part_of;
+use components::units_before;
 use names::valid_file_name;
 use names::valid_stream_name;
 use units::equal_units;
 ghost use mathlib.Core.Path.{_≡_};
 ghost use mathlib.Core.Bool.{true};
 ghost use mathlib.Core.List.{_∷_};
-ghost use lib.ListN.{take};
 ghost use Rattle.units.specs.Units.{backslash, colon, dataType, equalUnits};
-ghost use Rattle.paths.specs.Paths.{components, split, leafOf, endsIn, validLeaf, parseComponents, parsePath};
-ghost use Rattle.paths.specs.Positions.{placeOf, placeAfter, nextComponent, partOf, parentsOf, asLeaf, asPath, named, checked};
+ghost use Rattle.components.specs.Components.{components, split};
+ghost use Rattle.components.specs.Positions.{partOf, parentsOf};
+ghost use Rattle.paths.specs.Paths.{leafOf, endsIn, validLeaf, parseComponents, parsePath};
+ghost use Rattle.paths.specs.Positions.{asLeaf, asPath, named, checked};
 
 const BACKSLASH: u16 = 0x5C;
 
@@ -16,12 +22,6 @@ const COLON: u16 = 0x3A;
 
 // Units of a path.
 const PATH_LIMIT: usize = 255;
-
-// A part of a path, from one place up to another.
-pub struct Part {
-    pub start: usize,
-    pub end: usize,
-}
 
 // A path's last component: where its file name and its stream name stand, and whether it has a colon.
 pub struct LeafParts {
@@ -35,67 +35,6 @@ pub enum ParsedPath {
     Invalid,
     Root,
     Named(LeafParts),
-}
-
-// The first place from `at` on that does not hold the sign, or the end.
-fn skip_sign(units: &[u16], sign: u16, at: usize) -> usize
-    ensures { λ r. ⌜ r ≡ placeAfter sign (now (units .entry)) at ⌝ }
-{
-    let mut i = at;
-    while i < units.len() {
-        if units[i] != sign {
-            return i;
-        }
-        i += 1;
-    }
-    i
-}
-
-// The first place from `at` on that holds the sign, or the end.
-fn find_sign(units: &[u16], sign: u16, at: usize) -> usize
-    ensures { λ r. ⌜ r ≡ placeOf sign (now (units .entry)) at ⌝ }
-{
-    let mut i = at;
-    while i < units.len() {
-        if units[i] == sign {
-            return i;
-        }
-        i += 1;
-    }
-    i
-}
-
-// The first component from `at` on. Where there is none, the part is empty and stands at the end.
-pub fn next_component(path: &[u16], at: usize) -> Part
-    ensures { λ r. ⌜ r ≡ nextComponent (now (path .entry)) at ⌝ }
-{
-    let start = skip_sign(path, BACKSLASH, at);
-    let end = find_sign(path, BACKSLASH, start);
-    Part { start, end }
-}
-
-// The units before a place.
-pub fn units_before(units: &[u16], end: usize) -> &[u16]
-    ensures { λ r. ⌜ now r ≡ take end (now (units .entry)) ⌝ }
-{
-    if end < units.len() {
-        &units[..end]
-    } else {
-        units
-    }
-}
-
-// The units of a part.
-pub fn part_of(units: &[u16], part: Part) -> &[u16]
-    ensures { λ r. ⌜ now r ≡ partOf (now (units .entry)) part ⌝ }
-{
-    let start = part.start;
-    let before = units_before(units, part.end);
-    if start < before.len() {
-        &before[start..]
-    } else {
-        &before[..0]
-    }
 }
 
 // Whether the units are `$DATA`, whatever their case.

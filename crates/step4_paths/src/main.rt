@@ -72,7 +72,7 @@ fn say_units(units: &[u16]) {
 
 fn answer_name(bytes: &[u8]) {
     let units = units_of(bytes);
-    let name = paths::units_before(&units, bytes.len());
+    let name = components::units_before(&units, bytes.len());
     say_if(names::valid_file_name(name), b"file");
     say(b" ");
     say_if(names::valid_stream_name(name), b"stream");
@@ -81,8 +81,8 @@ fn answer_name(bytes: &[u8]) {
 fn answer_equal(a: &[u8], b: &[u8]) {
     let a_units = units_of(a);
     let b_units = units_of(b);
-    let a_name = paths::units_before(&a_units, a.len());
-    let b_name = paths::units_before(&b_units, b.len());
+    let a_name = components::units_before(&a_units, a.len());
+    let b_name = components::units_before(&b_units, b.len());
     say_if(units::equal_units(a_name, b_name, false), b"exact");
     say(b" ");
     say_if(units::equal_units(a_name, b_name, true), b"folded");
@@ -107,9 +107,9 @@ fn answer_pair(bytes: &[u8]) {
 fn say_leaf(path: &[u16], leaf: LeafParts) {
     let file = leaf.file;
     let stream = leaf.stream;
-    say_units(paths::part_of(path, file));
+    say_units(components::part_of(path, file));
     say(b"|");
-    say_units(paths::part_of(path, stream));
+    say_units(components::part_of(path, stream));
     say(b"|");
     if leaf.colon {
         say(b":");
@@ -118,7 +118,7 @@ fn say_leaf(path: &[u16], leaf: LeafParts) {
 
 fn answer_path(bytes: &[u8], wants_directory: bool, wants_file: bool) {
     let units = units_of(bytes);
-    let path = paths::units_before(&units, bytes.len());
+    let path = components::units_before(&units, bytes.len());
     let parsed = paths::parse_path(path, wants_directory, wants_file);
     match parsed {
         ParsedPath::Invalid => say(b"C0000033"),

@@ -12,7 +12,8 @@ use Rattle.records.specs.Checked.{_>>=_, _>>_, refuseIf}
 use Rattle.units.specs.Units.{upper, folded, equalUnits}
 use Rattle.names.specs.Names.{validUnit, validFileName, validStreamName}
 use Rattle.stored_names.specs.StoredNames.{units, wellStored}
-use Rattle.paths.specs.Paths.{startPart, split, components, endsIn, leafOf, validLeaf, checkedLeaf, parseComponents, parsePath}
+use Rattle.components.specs.Components.{startPart, split, components}
+use Rattle.paths.specs.Paths.{endsIn, leafOf, validLeaf, checkedLeaf, parseComponents, parsePath}
 use Rattle.lookup.specs.Lookup.{linkMatches, linkNumber, findLink, stepInto, descend, placeOf, locateLeaf, locate}
 use Rattle.stream_lookup.specs.StreamLookup.{streamMatches, streamNumber, findStream}
 use Rattle.access.specs.Access.{effective, need, accessFrom, accessRule, checkedAccess}

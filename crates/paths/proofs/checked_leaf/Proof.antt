@@ -8,9 +8,11 @@ use mathlib.Core.Path.{_≡_, sym, ap, _∙_}
 use native.Mathlib.Omega.{arith}
 use lib.ListN.{take}
 use borrow.Author.Needs.{needs}
-use Rattle.paths.specs.Paths.{Leaf, components, leafOf, split}
-use Rattle.paths.specs.Positions.{partOf, asLeaf, asPath, named, checked}
 use Rattle.units.specs.Units.{colon}
+use Rattle.components.specs.Components.{split, components}
+use Rattle.components.specs.Positions.{partOf}
+use Rattle.paths.specs.Paths.{Leaf, leafOf}
+use Rattle.paths.specs.Positions.{asLeaf, asPath, named, checked}
 use Rattle.paths.specs.declared.ParsedPath.{ParsedPath}
 use Rattle.paths.specs.declared.ParsedPath.the-variants.{Invalid, Root, Named}
 use Rattle.paths.proofs.Judging.{checked-none, never-root, checked-some}

@@ -2,7 +2,8 @@
 use mathlib.Core.Path.{sym, ap, _∙_}
 use lib.Seq.{slice-empty}
 use borrow.Author.Needs.{needs}
-use Rattle.paths.specs.Positions.{partOf, parentsOf, asLeaf, asPath, named}
+use Rattle.components.specs.Positions.{partOf, parentsOf}
+use Rattle.paths.specs.Positions.{asLeaf, asPath, named}
 use Rattle.paths.proofs.Parsing.{leaf-more, leaf-file}
 use Rattle.paths.proofs.leaf_parts.Statement.{statement}
 use Rattle.paths.proofs.leaf_parts.Tie as tie

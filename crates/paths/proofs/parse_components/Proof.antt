@@ -8,9 +8,10 @@ use borrow.Author.Needs.{needs}
 use borrow.Author.Tests.{not-true, not-false}
 use Rattle.records.specs.Sizes.{fileNameLimit}
 use Rattle.names.specs.Names.{validFileName}
-use Rattle.paths.specs.Positions.{asPath, nextComponent}
-use Rattle.paths.specs.declared.Part.{Part}
-use Rattle.paths.proofs.Places.{next-order, next-within}
+use Rattle.components.specs.Positions.{nextComponent}
+use Rattle.components.specs.declared.Part.{Part}
+use Rattle.components.proofs.Places.{next-order, next-within}
+use Rattle.paths.specs.Positions.{asPath}
 use Rattle.paths.proofs.Walk.{At, first-none, at-first, at-next, at-bad, at-last}
 use Rattle.paths.proofs.parse_components.Statement.{statement}
 use Rattle.paths.proofs.parse_components.Tie as tie

@@ -2,7 +2,8 @@
 use mathlib.Core.Bool.{true, false}
 use mathlib.Core.Path.{sym, ap, _∙_}
 use borrow.Author.Needs.{needs}
-use Rattle.paths.specs.Positions.{partOf, parentsOf, asLeaf, asPath, named}
+use Rattle.components.specs.Positions.{partOf, parentsOf}
+use Rattle.paths.specs.Positions.{asLeaf, asPath, named}
 use Rattle.paths.proofs.Parsing.{stream-type, stream-empty, stream-only}
 use Rattle.paths.proofs.stream_parts.Statement.{statement}
 use Rattle.paths.proofs.stream_parts.Tie as tie

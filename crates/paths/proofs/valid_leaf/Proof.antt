@@ -4,7 +4,8 @@ use borrow.Author.Needs.{needs}
 use borrow.Author.Tests.{not-true, not-false}
 use Rattle.records.specs.Sizes.{fileNameLimit, streamNameLimit}
 use Rattle.names.specs.Names.{validFileName, validStreamName}
-use Rattle.paths.specs.Positions.{partOf, asLeaf}
+use Rattle.components.specs.Positions.{partOf}
+use Rattle.paths.specs.Positions.{asLeaf}
 use Rattle.paths.proofs.Judging.{leaf-file-bad, leaf-stream-bad, leaf-of-directory, leaf-of-any}
 use Rattle.paths.proofs.valid_leaf.Statement.{statement}
 use Rattle.paths.proofs.valid_leaf.Tie as tie

@@ -27,7 +27,8 @@ use Rattle.records.specs.declared.Link.{Link}
 use Rattle.records.specs.declared.Request.{Request}
 use Rattle.units.specs.Units.{colon, folded, equalUnits}
 use Rattle.stored_names.specs.StoredNames.{units}
-use Rattle.paths.specs.Paths.{Leaf, Path, split, components, leafOf, validLeaf, checkedLeaf, parseComponents, parsePath}
+use Rattle.components.specs.Components.{split, components}
+use Rattle.paths.specs.Paths.{Leaf, Path, leafOf, validLeaf, checkedLeaf, parseComponents, parsePath}
 use Rattle.paths.proofs.Parsed.{parsed-leaf}
 use Rattle.lookup.specs.Lookup.{findLink, stepInto, descend, Place, found, missing, locate}
 use Rattle.stream_lookup.specs.StreamLookup.{streamMatches, streamNumber, findStream}

@@ -4,7 +4,8 @@ use borrow.Author.Needs.{needs}
 use Rattle.records.specs.Namespace.{namespace}
 use Rattle.records.specs.Checked.{passed}
 use Rattle.records.specs.declared.Link.{Link}
-use Rattle.paths.specs.Positions.{asLeaf, parentsOf}
+use Rattle.components.specs.Positions.{parentsOf}
+use Rattle.paths.specs.Positions.{asLeaf}
 use Rattle.lookup.specs.Lookup.{found, locate}
 use Rattle.lookup.specs.Answers.{pathTo, asPlace}
 use Rattle.lookup.proofs.Walking.{placeFrom, walk-leads}

@@ -13,10 +13,10 @@ use Rattle.records.specs.Sizes.{fileSlots, linkSlots}
 use Rattle.records.specs.Slots.{root}
 use Rattle.records.specs.Namespace.{namespace}
 use Rattle.records.proofs.Lengths.{files-length, links-length}
-use Rattle.paths.specs.Paths.{components}
-use Rattle.paths.specs.Positions.{partOf, parentsOf, nextComponent}
-use Rattle.paths.specs.declared.Part.{Part}
-use Rattle.paths.proofs.Places.{next-order, next-within}
+use Rattle.components.specs.Components.{components}
+use Rattle.components.specs.Positions.{partOf, parentsOf, nextComponent}
+use Rattle.components.specs.declared.Part.{Part}
+use Rattle.components.proofs.Places.{next-order, next-within}
 use Rattle.lookup.specs.Lookup.{findLink}
 use Rattle.lookup.specs.Answers.{lastStep, walkedFrom}
 use Rattle.lookup.specs.declared.walk.FoundFile.the-variants.{Missing}

@@ -10,7 +10,7 @@ use lib.ListN.{length, getD, take, drop, drop-of-length-le, replicate, length-dr
 use lib.Seq.{slice, take-nil, take-take, drop-drop}
 use borrow.Author.Tests.{eqb-true}
 use Rattle.lists.proofs.Scan.{drop-next}
-use Rattle.paths.specs.Positions.{leading, isSign}
+use Rattle.components.specs.Positions.{leading, isSign}
 
 -- from a place on, as a loop finds it
 

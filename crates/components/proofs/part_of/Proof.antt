@@ -1,13 +1,13 @@
--- `paths::part_of` meets its contract: what is left of the units before the part's end.
+-- `components::part_of` meets its contract: what is left of the units before the part's end.
 use Prim.Native.Nat.{_-_}
 use mathlib.Core.Path.{sym, ap, _∙_}
 use native.Mathlib.Omega.{arith}
 use lib.ListN.{length, drop, length-drop, drop-of-length-le}
 use lib.Seq.{take-all}
 use borrow.Author.Needs.{needs}
-use Rattle.paths.specs.Positions.{partOf}
-use Rattle.paths.proofs.part_of.Statement.{statement}
-use Rattle.paths.proofs.part_of.Tie as tie
+use Rattle.components.specs.Positions.{partOf}
+use Rattle.components.proofs.part_of.Statement.{statement}
+use Rattle.components.proofs.part_of.Tie as tie
 
 units-before-requires : tie.Need-units-before-requires
 units-before-requires c κs = search needs

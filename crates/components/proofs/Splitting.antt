@@ -1,19 +1,19 @@
 -- Laws of `split` and `components`: the first part, what follows it, and where a path may be cut.
-use Prim.Native.Nat.{ℕ, zero, suc, _≤_}
+use Prim.Native.Nat.{ℕ, zero, suc, _≤_, _<_}
 use mathlib.Core.Path.{_≡_, refl, sym, ap, _∙_}
 use mathlib.Core.Bool.{Bool, true, false, not, cond}
 use mathlib.Core.List.{List, [], _∷_, _++_, append-nil, append-assoc}
 use native.Mathlib.Omega.{arith}
 use lib.Dec.{eqb}
 use lib.ListN.{length, take, drop, replicate, length-take, take-append-drop}
-use lib.Seq.{take-length, drop-length}
+use lib.Seq.{take-length, drop-length, drop-cons}
 use borrow.Author.Tests.{eq-eqb}
 use Rattle.lists.specs.Lists.{keep, isEmpty}
 use Rattle.lists.proofs.Scan.{keep-append}
 use Rattle.units.specs.Units.{backslash}
-use Rattle.paths.specs.Paths.{split, startPart, components}
-use Rattle.paths.specs.Positions.{leading, isSign, noSign}
-use Rattle.paths.proofs.Leading.{leading-le, leading-rest, leading-take, leading-signs}
+use Rattle.components.specs.Components.{split, startPart, components}
+use Rattle.components.specs.Positions.{leading, isSign, noSign}
+use Rattle.components.proofs.Leading.{leading-le, leading-rest, leading-take, leading-signs}
 
 -- the parts after the first separator, which the list starts with
 abbrev pub splitRest : ℕ → List ℕ → List (List ℕ)
@@ -38,6 +38,12 @@ pub split-one : (sign : ℕ) (us : List ℕ) → length us ≤ leading (noSign s
 split-one sign us h =
     let e : leading (noSign sign) us ≡ length us = omega (arith, leading-le (noSign sign) us) in
     split-first sign us ∙ rw (e, take-length us, drop-length us)
+
+-- with one, the other parts are those after it
+pub split-more : (sign : ℕ) (us : List ℕ) → leading (noSign sign) us < length us → split sign us ≡ take (leading (noSign sign) us) us ∷ split sign (drop (suc (leading (noSign sign) us)) us)
+split-more sign us h =
+    let m = leading (noSign sign) us in
+    split-first sign us ∙ ap (λ (l : List ℕ). take m us ∷ splitRest sign l) (drop-cons us m 0 h)
 
 -- a separator splits a list in two
 pub split-append : (sign : ℕ) (a b : List ℕ) → split sign (a ++ sign ∷ b) ≡ split sign a ++ split sign b

@@ -1,4 +1,4 @@
--- `paths::find_sign` meets its contract. The loop's invariant: the place sought is the first that fails from i on.
+-- `components::find_sign` meets its contract. The loop's invariant: the place sought is the first that fails from i on.
 use Prim.Native.Nat.{_+_, _-_}
 use mathlib.Core.Bool.{not}
 use mathlib.Core.Path.{_≡_, refl, sym, ap, _∙_}
@@ -6,10 +6,10 @@ use native.Mathlib.Omega.{arith}
 use lib.ListN.{length, drop}
 use borrow.Author.Needs.{needs}
 use borrow.Author.Tests.{eq-eqb, ne-eqb}
-use Rattle.paths.specs.Positions.{leading, noSign, placeOf}
-use Rattle.paths.proofs.Leading.{from-next, from-stops, from-end}
-use Rattle.paths.proofs.find_sign.Statement.{statement}
-use Rattle.paths.proofs.find_sign.Tie as tie
+use Rattle.components.specs.Positions.{leading, noSign, placeOf}
+use Rattle.components.proofs.Leading.{from-next, from-stops, from-end}
+use Rattle.components.proofs.find_sign.Statement.{statement}
+use Rattle.components.proofs.find_sign.Tie as tie
 
 abbrev Inv-loop : tie.InvT-loop
 Inv-loop units sign at i₀ i = placeOf sign units at ≡ i + leading (noSign sign) (drop i units)

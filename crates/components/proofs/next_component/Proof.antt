@@ -1,12 +1,12 @@
--- `paths::next_component` meets its contract, by those of the two searches.
+-- `components::next_component` meets its contract, by those of the two searches.
 use Prim.Native.Nat.{ℕ}
 use mathlib.Core.Path.{ap, _∙_}
 use borrow.Author.Needs.{needs}
 use Rattle.units.specs.Units.{backslash}
-use Rattle.paths.specs.Positions.{placeOf, nextComponent}
-use Rattle.paths.specs.declared.Part.{Part}
-use Rattle.paths.proofs.next_component.Statement.{statement}
-use Rattle.paths.proofs.next_component.Tie as tie
+use Rattle.components.specs.Positions.{placeOf, nextComponent}
+use Rattle.components.specs.declared.Part.{Part}
+use Rattle.components.proofs.next_component.Statement.{statement}
+use Rattle.components.proofs.next_component.Tie as tie
 
 skip-sign-requires : tie.Need-skip-sign-requires
 skip-sign-requires c κs = search needs

@@ -1,11 +1,11 @@
--- `paths::units_before` meets its contract: past the end all units are taken.
+-- `components::units_before` meets its contract: past the end all units are taken.
 use mathlib.Core.Path.{sym}
 use native.Mathlib.Omega.{arith}
 use lib.ListN.{length-take}
 use lib.Seq.{take-all}
 use borrow.Author.Needs.{needs}
-use Rattle.paths.proofs.units_before.Statement.{statement}
-use Rattle.paths.proofs.units_before.Tie as tie
+use Rattle.components.proofs.units_before.Statement.{statement}
+use Rattle.components.proofs.units_before.Tie as tie
 
 slice-aggregate-result : tie.Need-slice-aggregate-result
 slice-aggregate-result c = omega (arith, length-take (c .before .before .args .end) (c .before .before .args .units .now))

@@ -1,14 +1,14 @@
--- `paths::skip_sign` meets its contract. The loop's invariant: the place sought is the first that fails from i on.
+-- `components::skip_sign` meets its contract. The loop's invariant: the place sought is the first that fails from i on.
 use Prim.Native.Nat.{_+_, _-_}
 use mathlib.Core.Path.{_≡_, refl, sym, _∙_}
 use native.Mathlib.Omega.{arith}
 use lib.ListN.{length, drop}
 use borrow.Author.Needs.{needs}
 use borrow.Author.Tests.{eq-eqb, ne-eqb}
-use Rattle.paths.specs.Positions.{leading, isSign, placeAfter}
-use Rattle.paths.proofs.Leading.{from-next, from-stops, from-end}
-use Rattle.paths.proofs.skip_sign.Statement.{statement}
-use Rattle.paths.proofs.skip_sign.Tie as tie
+use Rattle.components.specs.Positions.{leading, isSign, placeAfter}
+use Rattle.components.proofs.Leading.{from-next, from-stops, from-end}
+use Rattle.components.proofs.skip_sign.Statement.{statement}
+use Rattle.components.proofs.skip_sign.Tie as tie
 
 abbrev Inv-loop : tie.InvT-loop
 Inv-loop units sign at i₀ i = placeAfter sign units at ≡ i + leading (isSign sign) (drop i units)

@@ -1,16 +1,19 @@
--- Laws of the places that the code finds in a path: the next component, and the components before it.
-use Prim.Native.Nat.{ℕ, zero, suc, _+_, _≤_}
+-- Laws of the places that the code finds in a path: the next component, the components before it, and the first sign in a
+-- part.
+use Prim.Native.Nat.{ℕ, zero, suc, _+_, _-_, _≤_, _<_}
 use mathlib.Core.Path.{_≡_, refl, sym, ap, _∙_}
+use mathlib.Core.Bool.{false}
 use mathlib.Core.List.{List, [], _∷_, _++_}
 use native.Mathlib.Nat.{zero-add, add-zero}
 use native.Mathlib.Omega.{arith}
 use lib.ListN.{length, take, drop, replicate, length-drop}
-use lib.Seq.{slice, drop-drop, take-add}
+use lib.Seq.{slice, drop-drop, take-add, take-all}
+use Rattle.lists.specs.Lists.{isEmpty}
 use Rattle.units.specs.Units.{backslash}
-use Rattle.paths.specs.Paths.{components}
-use Rattle.paths.specs.Positions.{leading, isSign, noSign, placeOf, placeAfter, partOf, nextComponent}
-use Rattle.paths.proofs.Leading.{leading-le, leading-rest, leading-signs, slice-start}
-use Rattle.paths.proofs.Splitting.{components-skip, components-first, components-none, components-single, components-trail, signs-alone, Open, open-signs, open-trail}
+use Rattle.components.specs.Components.{split, components}
+use Rattle.components.specs.Positions.{leading, isSign, noSign, placeOf, placeAfter, partOf, nextComponent}
+use Rattle.components.proofs.Leading.{leading-le, leading-rest, leading-signs, slice-start, slice-take, slice-drop}
+use Rattle.components.proofs.Splitting.{split-one, split-more, not-empty, components-skip, components-first, components-none, components-single, components-trail, signs-alone, Open, open-signs, open-trail}
 
 module _ (path : List ℕ) (at : ℕ) where
   abbrev pub nextStart : ℕ
@@ -104,3 +107,42 @@ module _ (path : List ℕ) (s e : ℕ) (ends : e ≡ placeOf backslash path s) w
   next-parents more some opened =
       let g = gap more in
       rw (cut, g .1) (components-trail (take e path) (g .0)) ∙ last-added some opened
+
+-- a part of a path, split where its first sign was found: from s up to e, where the code searched the units before e and
+-- found the sign, or the end, at k
+
+module _ (sign : ℕ) (path : List ℕ) (s e k : ℕ) {units : List ℕ} (before : units ≡ take e path) (found : k ≡ placeOf sign units s) where
+  count : ℕ
+  count = leading (noSign sign) (slice s e path)
+
+  place : k ≡ s + count
+  unfolding count placeOf
+  place = found ∙ ap (λ (l : List ℕ). s + leading (noSign sign) (drop s l)) before
+
+  size : length (slice s e path) ≡ length units - s
+  size = length-drop s (take e path) ∙ ap (λ (l : List ℕ). length l - s) (sym before)
+
+  first-part : take count (slice s e path) ≡ slice s k path
+  unfolding count
+  first-part =
+      slice-take s e count path (leading-le (noSign sign) (slice s e path))
+      ∙ ap (λ (n : ℕ). slice s n path) (sym place)
+
+  pub split-last : length units ≤ k → split sign (slice s e path) ≡ slice s k path ∷ []
+  unfolding count
+  split-last h =
+      let whole : length (slice s e path) ≤ count = omega (arith, place, size) in
+      split-one sign (slice s e path) whole
+      ∙ ap (λ (l : List ℕ). l ∷ []) (sym (take-all count (slice s e path) whole) ∙ first-part)
+
+  pub split-found : k < length units → split sign (slice s e path) ≡ slice s k path ∷ split sign (slice (k + 1) e path)
+  unfolding count
+  split-found h =
+      let rest : s + suc count ≡ k + 1 = omega (arith, place) in
+      split-more sign (slice s e path) (omega (arith, place, size))
+      ∙ ap (λ (l : List ℕ). l ∷ split sign (drop (suc count) (slice s e path))) first-part
+      ∙ ap (λ (l : List ℕ). slice s k path ∷ split sign l) (slice-drop s e (suc count) path ∙ ap (λ (n : ℕ). slice n e path) rest)
+
+  pub part-some : (s ≡ k → ⊥) → isEmpty (slice s k path) ≡ false
+  unfolding count
+  part-some ne = rw (← first-part) (not-empty (noSign sign) (slice s e path) (λ z. ne (omega (arith, place))))
