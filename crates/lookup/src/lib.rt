@@ -5,7 +5,6 @@ use records::FileNo;
 use records::LinkNo;
 use records::Status;
 pub use walk::locate;
-pub use walk::walk_path;
 
 // Where the walk ends: at the last component's link, in a directory that lacks its name, or at a refusal.
 pub enum Walked {

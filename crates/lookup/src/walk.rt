@@ -52,7 +52,7 @@ fn file_is_directory(f: File) -> bool
 
 // From the root through the components before `last`, each a directory, to the link that the directory has for `last`.
 // The tables are indexed in place, so that no turn copies the volume. A file number past its table is no directory.
-pub fn walk_path(v: Volume, path: &[u16], last: Part, fold: bool) -> Walked
+fn walk_path(v: Volume, path: &[u16], last: Part, fold: bool) -> Walked
     ensures { λ r. ⌜ r ≡ walkedFrom (namespace v) fold root (parentsOf (now (path .entry)) last) (partOf (now (path .entry)) last) ⌝ }
 {
     let parents = units_before(path, last.start);
