@@ -108,8 +108,8 @@ fn open_of(line: Line) -> Open {
     }
 }
 
-// The answer to a change that can't be made.
-fn unknown() {
+// The answer to what is not understood.
+pub fn unknown() {
     io::write_all(STDOUT_FILENO, b" ?");
 }
 
@@ -165,14 +165,15 @@ fn put_next(v: Volume, number: u32) -> Volume {
     after
 }
 
-// The volume after a change. What it is of is told by the last letter of its word.
-fn changed_volume(v: Volume, line: Line) -> Volume {
+// The volume after the change that a line has come to the end of. Its table is told by the last letter of its word.
+pub fn changed_volume(v: Volume, line: Line) -> Volume {
     let label = line.label;
     match label {
         b'e' => put_file(v, line.value, file_of(line)),
         b'k' => put_link(v, line.value, link_of(line)),
         b'm' => put_stream(v, line.value, stream_of(line)),
         b't' => put_next(v, line.value),
+        b'n' => v,
         _ => {
             unknown();
             v
@@ -180,16 +181,10 @@ fn changed_volume(v: Volume, line: Line) -> Volume {
     }
 }
 
-// The tables after the change that a line has come to the end of.
-pub fn changed(t: Answer, line: Line) -> Answer {
-    let mut after = t;
-    let label = line.label;
-    let volume = t.volume;
-    let opens = t.opens;
-    match label {
-        b'y' => return fresh(),
-        b'n' => after.opens = put_open(opens, line.value, open_of(line)),
-        _ => after.volume = changed_volume(volume, line),
+// The opens after it.
+pub fn changed_opens(t: OpenTable, line: Line) -> OpenTable {
+    if line.label == b'n' {
+        return put_open(t, line.value, open_of(line));
     }
-    after
+    t
 }

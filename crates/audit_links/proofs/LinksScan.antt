@@ -7,11 +7,10 @@ use native.Mathlib.Omega.{arith}
 use lib.Dec.{eqb}
 use lib.ListN.{length, getD, replicate, List·getD-eq-default}
 use borrow.Author.Tests.{not-false, eqb-true, eq-eqb, ne-eqb}
-use Rattle.lists.specs.Lists.{same, padded}
+use Rattle.lists.specs.Lists.{same}
 use Rattle.lists.proofs.Default.{getD-default}
 use Rattle.names.specs.Names.{validFileName}
 use Rattle.stored_names.specs.StoredNames.{units, wellStored}
-use Rattle.stored_names.proofs.NameUnits.{units-end}
 use Rattle.records.specs.Sizes.{fileNameLimit}
 use Rattle.records.specs.Slots.{isUsed, isDirectory, fileUsed, linkUsed, zeroFile}
 use Rattle.tables.specs.Tables.{fileAt}
@@ -19,12 +18,13 @@ use Rattle.records.specs.declared.FileNo.{FileNo}
 use Rattle.records.specs.declared.File.{File}
 use Rattle.records.specs.declared.Link.{Link}
 use Rattle.consistency.specs.Test.{freeLink, usedLink, linkNamesDiffer}
+use Rattle.audit_names.proofs.StoredUnits.{zeros-stored}
 use Rattle.audit_parents.proofs.ParentsScan.{slotTest}
 
 -- a name without a first unit is well stored exactly when it is all zero
 pub free-name : (l : Link) → linkUsed l ≡ false → wellStored fileNameLimit (l .name) ≡ same (l .name) (replicate fileNameLimit 0)
-unfolding wellStored padded linkUsed
-free-name l u = rw (units-end (l .name) 0 (eqb-true (getD (l .name) 0 0) 0 (not-false (eqb (getD (l .name) 0 0) 0) u)))
+unfolding linkUsed
+free-name l u = zeros-stored fileNameLimit (l .name) (eqb-true (getD (l .name) 0 0) 0 (not-false (eqb (getD (l .name) 0 0) 0) u))
 
 -- past the end of the files there is a free slot
 past-files : (fs : List File) (f : FileNo) → length fs ≤ f .0 → fileAt fs f ≡ zeroFile

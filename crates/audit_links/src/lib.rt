@@ -1,6 +1,9 @@
 // The audit of the links table: each link by itself, then all pairs, then the links and the parents of each file
 // (`audit_parents`).
+use audit_names::name_length;
+use audit_names::well_stored;
 use audit_parents::files_linked;
+use names::valid_file_name;
 use records::FileType;
 use records::Link;
 use records::Volume;
@@ -27,7 +30,15 @@ fn free_link(l: Link) -> bool
         return false;
     }
     let name = l.name;
-    audit_names::well_stored(name)
+    well_stored(name)
+}
+
+// The name of a link is a valid one.
+fn valid_stored_name(name: [u16; 32]) -> bool
+    ensures { λ r. ⌜ r ≡ validFileName fileNameLimit (units name) ⌝ }
+{
+    let n = name_length(name);
+    valid_file_name(&name[..n])
 }
 
 // A used one has a valid name, of a used file in a directory, of which the types are given.
@@ -38,10 +49,10 @@ fn used_link(l: Link, of: FileType, above: FileType) -> bool
         && isDirectory above) ⌝ }
 {
     let name = l.name;
-    if !audit_names::well_stored(name) {
+    if !well_stored(name) {
         return false;
     }
-    if !audit_names::valid_stored_name(name) {
+    if !valid_stored_name(name) {
         return false;
     }
     is_used(of) && is_directory(above)

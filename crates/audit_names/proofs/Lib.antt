@@ -1,1 +1,1 @@
-mod StoredUnits
+pub mod StoredUnits

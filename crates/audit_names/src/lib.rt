@@ -1,15 +1,10 @@
-// What the audit asks of one stored name: its units, zeros after the last, validity.
-use names::valid_file_name;
-use names::valid_stream_name;
+// What the audit asks of any stored name: how many units it has, and zeros after the last.
 ghost use mathlib.Core.Path.{_≡_};
-ghost use lib.ListN.{length, replicate};
-ghost use Rattle.lists.specs.Lists.{isEmpty, same};
-ghost use Rattle.records.specs.Sizes.{fileNameLimit, streamNameLimit};
-ghost use Rattle.names.specs.Names.{validFileName, validStreamName};
+ghost use lib.ListN.{length};
 ghost use Rattle.stored_names.specs.StoredNames.{units, wellStored};
 
 // How many units a stored name has.
-fn name_length(name: [u16; 32]) -> usize
+pub fn name_length(name: [u16; 32]) -> usize
     ensures { λ r. ⌜ r ≡ length (units name) ⌝ }
 {
     let mut i = 0;
@@ -34,34 +29,4 @@ pub fn well_stored(name: [u16; 32]) -> bool
         at += 1;
     }
     true
-}
-
-// Whether the name that stands in a link, or in a stream, is a valid one.
-pub fn valid_stored_name(name: [u16; 32]) -> bool
-    ensures { λ r. ⌜ r ≡ validFileName fileNameLimit (units name) ⌝ }
-{
-    let n = name_length(name);
-    valid_file_name(&name[..n])
-}
-
-pub fn valid_stored_stream_name(name: [u16; 32]) -> bool
-    ensures { λ r. ⌜ r ≡ validStreamName streamNameLimit (units name) ⌝ }
-{
-    let n = name_length(name);
-    valid_stream_name(&name[..n])
-}
-
-// The name is the empty one.
-pub fn is_unnamed(name: [u16; 32]) -> bool
-    ensures { λ r. ⌜ r ≡ isEmpty (units name) ⌝ }
-{
-    let first = name[0];
-    first == 0
-}
-
-// The name is all zero.
-pub fn zero_name(name: [u16; 32]) -> bool
-    ensures { λ r. ⌜ r ≡ same name (replicate streamNameLimit 0) ⌝ }
-{
-    name[0] == 0 && well_stored(name)
 }

@@ -1,8 +1,7 @@
 // The audit of the streams table: each stream by itself, then every two used streams, then the streams of each file.
-use audit_names::is_unnamed;
-use audit_names::valid_stored_stream_name;
+use audit_names::name_length;
 use audit_names::well_stored;
-use audit_names::zero_name;
+use names::valid_stream_name;
 use records::File;
 use records::FileType;
 use records::Stream;
@@ -18,8 +17,8 @@ ghost use Prim.Native.Nat.{ℕ, _<_};
 ghost use mathlib.Core.Path.{_≡_};
 ghost use mathlib.Core.Bool.{cond, not, _&&_, _||_};
 ghost use lib.Dec.{eqb};
-ghost use lib.ListN.{getD};
-ghost use Rattle.lists.specs.Lists.{all, allFrom, count, isEmpty, keep, pairs};
+ghost use lib.ListN.{getD, replicate};
+ghost use Rattle.lists.specs.Lists.{all, allFrom, count, isEmpty, keep, pairs, same};
 ghost use Rattle.names.specs.Names.{validStreamName};
 ghost use Rattle.stored_names.specs.StoredNames.{units, wellStored};
 ghost use Rattle.records.specs.Sizes.{streamNameLimit};
@@ -32,6 +31,29 @@ ghost use Rattle.consistency.specs.Test.{sameBool, freeStream, usedStream, stre
 struct FileStreams {
     all: [u16; FILE_SLOTS],
     unnamed: [u16; FILE_SLOTS],
+}
+
+// The name of a stream is the empty one.
+fn is_unnamed(name: [u16; 32]) -> bool
+    ensures { λ r. ⌜ r ≡ isEmpty (units name) ⌝ }
+{
+    let first = name[0];
+    first == 0
+}
+
+// The name is all zero.
+fn zero_name(name: [u16; 32]) -> bool
+    ensures { λ r. ⌜ r ≡ same name (replicate streamNameLimit 0) ⌝ }
+{
+    name[0] == 0 && well_stored(name)
+}
+
+// The name is a valid one.
+fn valid_stored_stream_name(name: [u16; 32]) -> bool
+    ensures { λ r. ⌜ r ≡ validStreamName streamNameLimit (units name) ⌝ }
+{
+    let n = name_length(name);
+    valid_stream_name(&name[..n])
 }
 
 // A free slot is all zero.

@@ -6,10 +6,10 @@ use Rattle.audit_cases.proofs.run.Statement.{statement}
 use Rattle.audit_cases.proofs.run.Tie as tie
 
 abbrev Inv-loop : tie.InvT-loop
-Inv-loop input good₀ tables₀ line₀ i₀ good tables line i = i ≤ length input
+Inv-loop input good₀ volume₀ opens₀ line₀ i₀ good volume opens line i = i ≤ length input
 
 abbrev μ-loop : tie.MeasureT-loop
-μ-loop input good₀ tables₀ line₀ i₀ good tables line i = length input - i
+μ-loop input good₀ volume₀ opens₀ line₀ i₀ good volume opens line i = length input - i
 
 fresh-requires : tie.Need-fresh-requires Inv-loop μ-loop
 fresh-requires c κs = search needs
@@ -23,8 +23,11 @@ loop-holds c = search needs
 shared-slice-read-byte : tie.Need-shared-slice-read-byte Inv-loop μ-loop
 shared-slice-read-byte c = search needs
 
-changed-requires : tie.Need-changed-requires Inv-loop μ-loop
-changed-requires c κs = search needs
+changed-volume-requires : tie.Need-changed-volume-requires Inv-loop μ-loop
+changed-volume-requires c κs = search needs
+
+changed-opens-requires : tie.Need-changed-opens-requires Inv-loop μ-loop
+changed-opens-requires c κs = search needs
 
 start-requires-2 : tie.Need-start-requires-2 Inv-loop μ-loop
 start-requires-2 c κs = search needs
@@ -60,7 +63,8 @@ run-spec =
     start-requires
     loop-holds
     shared-slice-read-byte
-    changed-requires
+    changed-volume-requires
+    changed-opens-requires
     start-requires-2
     answered-requires
     start-requires-3

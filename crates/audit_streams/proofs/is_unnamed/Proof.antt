@@ -1,9 +1,9 @@
--- `audit_names::is_unnamed` meets its contract: a name is empty exactly where its first place is zero.
+-- `audit_streams::is_unnamed` meets its contract: a name is empty exactly where its first place is zero.
 use mathlib.Core.Path.{sym}
 use Rattle.audit_names.proofs.StoredUnits.{units-empty}
 use borrow.Author.Needs.{needs}
-use Rattle.audit_names.proofs.is_unnamed.Statement.{statement}
-use Rattle.audit_names.proofs.is_unnamed.Tie as tie
+use Rattle.audit_streams.proofs.is_unnamed.Statement.{statement}
+use Rattle.audit_streams.proofs.is_unnamed.Tie as tie
 
 array-read-first : tie.Need-array-read-first
 array-read-first c = search needs
