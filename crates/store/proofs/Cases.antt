@@ -1,7 +1,7 @@
 -- The worked cases hold, by evaluation of the definitions.
 use mathlib.Core.Path.{refl}
 use Rattle.store.specs.Evaluate.{storeRun, modelRun}
-use Rattle.store.specs.Cases.{seen, attributesOf, sevenCounts, observed, expected, Hold, workedCases, furtherCases, stepCases, namesWith, statusOf, limited, LimitsHold}
+use Rattle.store.specs.Cases.{seen, attributesOf, sevenCounts, observed, expected, Hold, workedCases, furtherCases, stepCases, statusAfter, StepsHold, namesWith, statusOf, limited, LimitsHold}
 
 pub worked-cases : Hold workedCases
 unfolding storeRun modelRun seen attributesOf sevenCounts observed expected
@@ -11,8 +11,8 @@ pub further-cases : Hold furtherCases
 unfolding storeRun modelRun seen attributesOf sevenCounts observed expected
 further-cases = refl
 
-pub step-cases : Hold stepCases
-unfolding storeRun modelRun seen attributesOf sevenCounts observed expected
+pub step-cases : StepsHold
+unfolding storeRun modelRun statusAfter
 step-cases = refl
 
 pub limit-cases : LimitsHold

@@ -234,56 +234,69 @@ furtherCases =
     }
     ∷ []
 
--- one refusal of each step that no case above reaches, in the paper's order
--- after these calls, one that is refused so; the attributes of the used files then
-abbrev pub refusedAfter : List Call → Call → ℕ → List ℕ → List (List ℕ) → Case
-refusedAfter before call status attributes counts =
-    record {
-      masks = fullMasks;
-      before = before;
-      calls = call ∷ [];
-      replies = refusedWith status ∷ [];
-      attributes = attributes;
-      counts = counts;
-    }
+-- one refusal of each step that no case above reaches, in the paper's order: every account's mask, the calls before, and
+-- the call with its status. The model is asked alone: by the theorem about every sequence the object store answers alike
+pub record StepCase : Type 0 where
+  pub mask : ℕ
+  pub before : List Call
+  pub call : Call
+  pub status : ℕ
 
-abbrev pub onlyRoot : Call → ℕ → Case
-onlyRoot call status = refusedAfter [] call status (0x10 ∷ []) (none7 ∷ [])
+unfoldable pub statusAfter : StepCase → ℕ
+statusAfter c =
+    let start = modelRun (replicate accounts (c .mask)) false (c .before) .state in
+    outcomeNumbers (modelStep start (c .call) .reply .outcome) .status
 
-abbrev pub readOnlyRoot : Call → ℕ → Case
-readOnlyRoot call status = refusedAfter (setsReadOnly true ∷ []) call status (0x10 ∷ []) (none7 ∷ [])
+abbrev pub masked : ℕ → Call → ℕ → StepCase
+masked mask call status = record { mask = mask; before = []; call = call; status = status }
 
-abbrev pub refusedOnG : Call → ℕ → Case
-refusedOnG call status = refusedAfter (makesA ∷ []) call status (0x10 ∷ 0x20 ∷ []) (none7 ∷ writerOfA ∷ [])
+abbrev pub after : List Call → Call → ℕ → StepCase
+after before call status = record { mask = allAccess; before = before; call = call; status = status }
 
 abbrev pub colonPath : List ℕ
 colonPath = 0x3A ∷ []
 
-abbrev pub stepCases : List Case
+-- `a` as a directory
+abbrev pub makesDirectory : Call
+makesDirectory = asks 0x80 7 2 1 a
+
+abbrev pub marksReadOnly : Call
+marksReadOnly = setsReadOnly true
+
+abbrev pub stepCases : List StepCase
 stepCases =
     -- 2 before 3, and 3
-    onlyRoot (asks 0 0 1 0x41 a) 0xC0000022
-    ∷ onlyRoot (asks 1 0 1 0x41 a) 0xC000000D
+    after [] (asks 0 0 1 0x41 a) 0xC0000022
+    ∷ after [] (asks 1 0 1 0x41 a) 0xC000000D
     -- 4 before 5, and 5
-    ∷ readOnlyRoot (asks 1 0 2 0 colonPath) 0xC0000033
-    ∷ readOnlyRoot (asks 1 0 2 0 a) 0xC00000A2
+    ∷ after (marksReadOnly ∷ []) (asks 1 0 2 0 colonPath) 0xC0000033
+    ∷ after (marksReadOnly ∷ []) (asks 1 0 2 0 a) 0xC00000A2
+    -- 6: a data file before the last component
+    ∷ after (makesA ∷ []) (asks 1 3 2 0 a\b) 0xC000003A
     -- 7: the name is missed before the read-only mark
-    ∷ readOnlyRoot (asks 1 0 1 0 a) 0xC0000034
-    ∷ readOnlyRoot (asks 1 0 3 0 a) 0xC00000A2
-    -- 8
-    ∷ onlyRoot (asks 1 0 1 0x40 []) 0xC00000BA
-    ∷ onlyRoot (asks 1 0 2 0x40 []) 0xC0000035
-    ∷ refusedOnG (asks 1 3 1 1 a) 0xC0000103
-    -- 9
-    ∷ onlyRoot (asksWith 0x100 1 0 2 1 a) 0xC000000D
-    -- 10: the root, another directory
-    ∷ onlyRoot (asks 1 0 0 0 []) 0xC0000022
-    ∷ refusedAfter (asks 0x80 7 2 1 a ∷ []) (asks 1 7 0 0 a) 0xC0000035 (0x10 ∷ 0x10 ∷ []) (none7 ∷ none7 ∷ [])
-    -- 11: found and created, missing and overwritten, hidden
-    ∷ refusedOnG (asks 1 3 2 0 a) 0xC0000035
-    ∷ refusedOnG (asks 1 3 4 0 a:log) 0xC0000034
-    ∷ refusedAfter (asksWith 2 0x80 7 2 0 a ∷ []) (asks 1 7 4 0 a) 0xC0000022 (0x10 ∷ 0x22 ∷ []) (none7 ∷ none7 ∷ [])
+    ∷ after (marksReadOnly ∷ []) (asks 1 0 1 0 a) 0xC0000034
+    ∷ after (marksReadOnly ∷ []) (asks 1 0 3 0 a) 0xC00000A2
+    -- 8: option 0x40 and a colon on a directory, option 0x1 on a data file
+    ∷ after [] (asks 1 0 1 0x40 []) 0xC00000BA
+    ∷ after [] (asks 1 0 2 0x40 []) 0xC0000035
+    ∷ after (makesDirectory ∷ []) (asks 1 7 1 0 a:log) 0xC00000BA
+    ∷ after (makesA ∷ []) (asks 1 3 1 1 a) 0xC0000103
+    -- 9: a temporary directory; a parent whose mask lacks 0x2
+    ∷ after [] (asksWith 0x100 1 0 2 1 a) 0xC000000D
+    ∷ masked 0x1 (asks 1 0 2 0 a) 0xC0000022
+    -- 10: the root, another directory; share read that may not be added
+    ∷ after [] (asks 1 0 0 0 []) 0xC0000022
+    ∷ after (makesDirectory ∷ []) (asks 1 7 0 0 a) 0xC0000035
+    ∷ masked 0x1 (asks 1 0 1 0x20000 []) 0xC0000022
+    -- 11: found and created, hidden and overwritten; missing and overwritten, missing on a read-only volume
+    ∷ after (makesA ∷ []) (asks 1 3 2 0 a) 0xC0000035
+    ∷ after (asksWith 2 0x80 7 2 0 a ∷ []) (asks 1 7 4 0 a) 0xC0000022
+    ∷ after (makesA ∷ []) (asks 1 3 4 0 a:log) 0xC0000034
+    ∷ after (makesA ∷ marksReadOnly ∷ []) (asks 1 3 3 0 a:log) 0xC00000A2
     ∷ []
+
+abbrev pub StepsHold : Type 0
+StepsHold = map statusAfter stepCases ≡ map (λ c. c .status) stepCases
 
 -- step 12 by itself, since tables so full lie far from any short sequence: how many slots of each table are used, whether
 -- the opens have room, the next handle, and what an open of the path is answered then (0: accepted)
