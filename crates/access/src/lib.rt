@@ -46,7 +46,7 @@ fn need(access: u32) -> u32
 }
 
 // The rule over an effective mask.
-pub fn access_from(mask: u32, access: u32) -> Access
+fn access_from(mask: u32, access: u32) -> Access
     ensures { λ r. ⌜ r ≡ accessFrom mask access ⌝ }
 {
     let n = need(access);

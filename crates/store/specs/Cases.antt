@@ -234,8 +234,8 @@ furtherCases =
     }
     ∷ []
 
--- one refusal of each step that no case above reaches, in the paper's order: every account's mask, the calls before, and
--- the call with its status. The model is asked alone: by the theorem about every sequence the object store answers alike
+-- what no case above reaches, in the paper's order: every account's mask, the calls before, and the call with its status
+-- (0: accepted). The model is asked alone: by the theorem about every sequence the object store answers alike
 pub record StepCase : Type 0 where
   pub mask : ℕ
   pub before : List Call
@@ -247,11 +247,11 @@ statusAfter c =
     let start = modelRun (replicate accounts (c .mask)) false (c .before) .state in
     outcomeNumbers (modelStep start (c .call) .reply .outcome) .status
 
-abbrev pub masked : ℕ → Call → ℕ → StepCase
-masked mask call status = record { mask = mask; before = []; call = call; status = status }
+abbrev pub masked : ℕ → List Call → Call → ℕ → StepCase
+masked mask before call status = record { mask = mask; before = before; call = call; status = status }
 
 abbrev pub after : List Call → Call → ℕ → StepCase
-after before call status = record { mask = allAccess; before = before; call = call; status = status }
+after before call status = masked allAccess before call status
 
 abbrev pub colonPath : List ℕ
 colonPath = 0x3A ∷ []
@@ -271,8 +271,9 @@ stepCases =
     -- 4 before 5, and 5
     ∷ after (marksReadOnly ∷ []) (asks 1 0 2 0 colonPath) 0xC0000033
     ∷ after (marksReadOnly ∷ []) (asks 1 0 2 0 a) 0xC00000A2
-    -- 6: a data file before the last component
+    -- 6: a data file before the last component; no account needs 0x20 to traverse
     ∷ after (makesA ∷ []) (asks 1 3 2 0 a\b) 0xC000003A
+    ∷ masked 0x86 (makesDirectory ∷ []) (asks 0x80 7 2 0 a\b) 0
     -- 7: the name is missed before the read-only mark
     ∷ after (marksReadOnly ∷ []) (asks 1 0 1 0 a) 0xC0000034
     ∷ after (marksReadOnly ∷ []) (asks 1 0 3 0 a) 0xC00000A2
@@ -283,11 +284,11 @@ stepCases =
     ∷ after (makesA ∷ []) (asks 1 3 1 1 a) 0xC0000103
     -- 9: a temporary directory; a parent whose mask lacks 0x2
     ∷ after [] (asksWith 0x100 1 0 2 1 a) 0xC000000D
-    ∷ masked 0x1 (asks 1 0 2 0 a) 0xC0000022
+    ∷ masked 0x1 [] (asks 1 0 2 0 a) 0xC0000022
     -- 10: the root, another directory; share read that may not be added
     ∷ after [] (asks 1 0 0 0 []) 0xC0000022
     ∷ after (makesDirectory ∷ []) (asks 1 7 0 0 a) 0xC0000035
-    ∷ masked 0x1 (asks 1 0 1 0x20000 []) 0xC0000022
+    ∷ masked 0x1 [] (asks 1 0 1 0x20000 []) 0xC0000022
     -- 11: found and created, hidden and overwritten; missing and overwritten, missing on a read-only volume
     ∷ after (makesA ∷ []) (asks 1 3 2 0 a) 0xC0000035
     ∷ after (asksWith 2 0x80 7 2 0 a ∷ []) (asks 1 7 4 0 a) 0xC0000022

@@ -7,8 +7,6 @@ use records::sizes::STREAM_SLOTS;
 use records::slots::stream_used;
 use stored_names::name_equals;
 ghost use mathlib.Core.Path.{_≡_};
-ghost use mathlib.Core.Bool.{false};
-ghost use mathlib.Core.List.{[]};
 ghost use Rattle.records.specs.Namespace.{namespace, bare};
 ghost use Rattle.stream_lookup.specs.StreamLookup.{streamMatches, findStream, foundStream};
 
@@ -45,12 +43,4 @@ pub fn find_stream(v: Volume, file: FileNo, name: &[u16], fold: bool) -> FoundSt
         i += 1;
     }
     FoundStream::Missing
-}
-
-// The file's stream without a name.
-pub fn first_stream(v: Volume, file: FileNo) -> FoundStream
-    ensures { λ r. ⌜ r ≡ foundStream (findStream (namespace v) false file []) ⌝ }
-{
-    let none: [u16; 0] = [];
-    find_stream(v, file, &none, false)
 }
