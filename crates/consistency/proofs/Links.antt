@@ -10,7 +10,6 @@ use lib.ListN.{length}
 use borrow.Author.Tests.{eqb-true, eqb-false, eq-eqb, ne-eqb}
 use Rattle.lists.specs.Lists.{all, allFrom, count, keep, pairs, same}
 use Rattle.lists.proofs.Tests.{tested, and-iff, eqb-iff, same-iff, cond-true, cond-false}
-use Rattle.lists.proofs.Pairs.{pairs-keep-at, pairs-keep-of}
 use Rattle.records.specs.Sizes.{fileSlots, fileNameLimit}
 use Rattle.records.specs.Slots.{root, zeroLink, isDirectory, fileUsed, linkUsed}
 use Rattle.tables.specs.Tables.{fileAt, linkAt}
@@ -24,7 +23,7 @@ use Rattle.consistency.specs.Relations.{linkTo, climb, reaches}
 use Rattle.consistency.specs.Test.{freeLink, usedLink, linkNamesDiffer, linksOfFile, linksTest}
 use Rattle.consistency.specs.Consistent.{FilesConsistent, LinksConsistent}
 use Rattle.consistency.proofs.Slots.{same-file, guard-iff, used-below, slot-used, slot-free, slots-of}
-use Rattle.consistency.proofs.Numbered.{directory-file, files-at, files-of, names-differ, names-differ-of}
+use Rattle.consistency.proofs.Numbered.{directory-file, files-at, files-of, differ-at, differ-of}
 use Rattle.consistency.proofs.Parents.{links-kept, reaches-kept, reaches-climbs, few-steps}
 
 -- a free slot passes its test exactly when it is all zero
@@ -125,9 +124,7 @@ module _ (fs : List File) (files : FilesConsistent fs) (ls : List Link) where
         parentsLeadToRoot = λ f u. file f u .leadsToRoot;
         namesDiffer =
             λ l m b u w.
-            names-differ (linkAt ls l .parent) (linkAt ls m .parent) (units (linkAt ls l .name))
-            (units (linkAt ls m .name))
-            (pairs-keep-at linkUsed linkNamesDiffer zeroLink ls (p .0 .1) (l .0) (m .0) b (link-in ls m w) u w);
+            differ-at linkUsed (λ k. k .parent) (λ k. units (k .name)) zeroLink ls zero-link-free (p .0 .1) (l .0) (m .0) b u w;
       }
 
   module _ (c : LinksConsistent fs ls) where
@@ -160,12 +157,8 @@ module _ (fs : List File) (files : FilesConsistent fs) (ls : List Link) where
     names : pairs linkNamesDiffer (keep linkUsed ls) ≡ true
     unfolding linkAt linkNamesDiffer
     names =
-        pairs-keep-of linkUsed linkNamesDiffer zeroLink ls
-        (λ i j b z u w.
-        let l : LinkNo = record { 0 = i } in
-        let m : LinkNo = record { 0 = j } in
-        names-differ-of (linkAt ls l .parent) (linkAt ls m .parent) (units (linkAt ls l .name))
-        (units (linkAt ls m .name)) (c .namesDiffer l m b u w))
+        differ-of linkUsed (λ k. k .parent) (λ k. units (k .name)) zeroLink ls
+        (λ i j b u w. c .namesDiffer (record { 0 = i }) (record { 0 = j }) b u w)
 
     file-links-all : allFrom (linksOfFile (keep linkUsed ls)) 0 fs ≡ true
     file-links-all =

@@ -8,8 +8,9 @@ use native.Mathlib.Nat.{zero-add}
 use lib.Dec.{eqb}
 use lib.ListN.{length, getD}
 use borrow.Author.Tests.{eqb-true, eq-eqb, not-true}
-use Rattle.lists.specs.Lists.{allFrom, same}
+use Rattle.lists.specs.Lists.{allFrom, keep, pairs, same}
 use Rattle.lists.proofs.All.{all-from-at, all-from-of}
+use Rattle.lists.proofs.Pairs.{pairs-keep-at, pairs-keep-of}
 use Rattle.lists.proofs.Tests.{tested, not-both, same-is, same-self}
 use Rattle.records.specs.Slots.{isUsed, isDirectory, zeroFile, fileUsed}
 use Rattle.tables.specs.Tables.{fileAt}
@@ -61,11 +62,32 @@ not-same-of xs ys n = ⊎-elim (λ e. absurd (n (same-is xs ys e))) (λ e. e) (t
 
 -- two names in one directory, or of one file, differ
 module _ (f g : FileNo) (xs ys : List ℕ) where
-  pub names-differ : not (eqb (f .0) (g .0) && same xs ys) ≡ true → f ≡ g → xs ≢ ys
+  names-differ : not (eqb (f .0) (g .0) && same xs ys) ≡ true → f ≡ g → xs ≢ ys
   names-differ h e =
       not-same xs ys (excluded (eqb (f .0) (g .0)) (same xs ys) h (eq-eqb (f .0) (g .0) (λ i. e i .0)))
 
-  pub names-differ-of : (f ≡ g → xs ≢ ys) → not (eqb (f .0) (g .0) && same xs ys) ≡ true
+  names-differ-of : (f ≡ g → xs ≢ ys) → not (eqb (f .0) (g .0) && same xs ys) ≡ true
   names-differ-of h =
       excludes (eqb (f .0) (g .0)) (same xs ys)
       (λ e. not-same-of xs ys (h (same-file f g (eqb-true (f .0) (g .0) e))))
+
+-- the names of a table, whose records are of a directory or of a file: every two used slots
+module _ {A : Type 0} (used : A → Bool) (of : A → FileNo) (name : A → List ℕ) (d : A) (xs : List A) where
+  abbrev Apart : A → A → Bool
+  Apart x y = not (eqb (of x .0) (of y .0) && same (name x) (name y))
+
+  abbrev Differ : ℕ → ℕ → Type 0
+  Differ i j = of (getD xs i d) ≡ of (getD xs j d) → name (getD xs i d) ≢ name (getD xs j d)
+
+  pub differ-at : used d ≡ false → pairs Apart (keep used xs) ≡ true
+      → (i j : ℕ) → i < j → used (getD xs i d) ≡ true → used (getD xs j d) ≡ true → Differ i j
+  differ-at df h i j b u w =
+      names-differ (of (getD xs i d)) (of (getD xs j d)) (name (getD xs i d)) (name (getD xs j d))
+      (pairs-keep-at used Apart d xs h i j b (used-below used d df xs j w) u w)
+
+  pub differ-of : ((i j : ℕ) → i < j → used (getD xs i d) ≡ true → used (getD xs j d) ≡ true → Differ i j)
+      → pairs Apart (keep used xs) ≡ true
+  differ-of h =
+      pairs-keep-of used Apart d xs
+      (λ i j b z u w.
+      names-differ-of (of (getD xs i d)) (of (getD xs j d)) (name (getD xs i d)) (name (getD xs j d)) (h i j b u w))

@@ -9,7 +9,6 @@ use lib.ListN.{length}
 use Rattle.lists.specs.Lists.{all, allFrom, count, keep, pairs, same, isEmpty}
 use Rattle.lists.proofs.Tests.{and-left, and-iff, eqb-iff, same-iff}
 use Rattle.lists.proofs.Keep.{count-keep}
-use Rattle.lists.proofs.Pairs.{pairs-keep-at, pairs-keep-of}
 use Rattle.records.specs.Sizes.{streamNameLimit}
 use Rattle.records.specs.Slots.{root, isUsed, isDirectory, fileUsed}
 use Rattle.tables.specs.Tables.{fileAt}
@@ -23,7 +22,7 @@ use Rattle.consistency.specs.Relations.{streamOf, unnamedOf}
 use Rattle.consistency.specs.Test.{freeStream, usedStream, streamNamesDiffer, streamsOfFile, streamsTest}
 use Rattle.consistency.specs.Consistent.{StreamsConsistent}
 use Rattle.consistency.proofs.Slots.{same-file, unused, same-type, same-bool-iff, guard-iff, used-below, slot-used, slot-free, slots-of}
-use Rattle.consistency.proofs.Numbered.{directory-file, files-at, files-of, names-differ, names-differ-of}
+use Rattle.consistency.proofs.Numbered.{directory-file, files-at, files-of, differ-at, differ-of}
 
 -- a free slot passes its test exactly when it is all zero
 free-stream : (s : BareStream) → bareUsed s ≡ false → freeStream s ≡ true → s ≡ zeroBare
@@ -129,8 +128,7 @@ module _ (fs : List File) (ss : List BareStream) where
         directoriesHaveOne = λ f d. file f (directory-file fs f d) .directoriesHaveOne d;
         namesDiffer =
             λ s t b u w.
-            names-differ (bareAt ss s .file) (bareAt ss t .file) (units (bareAt ss s .name)) (units (bareAt ss t .name))
-            (pairs-keep-at bareUsed streamNamesDiffer zeroBare ss (p .0 .1) (s .0) (t .0) b (stream-in ss t w) u w);
+            differ-at bareUsed (λ k. k .file) (λ k. units (k .name)) zeroBare ss zero-stream-free (p .0 .1) (s .0) (t .0) b u w;
       }
 
   module _ (c : StreamsConsistent fs ss) where
@@ -152,12 +150,8 @@ module _ (fs : List File) (ss : List BareStream) where
     names : pairs streamNamesDiffer (keep bareUsed ss) ≡ true
     unfolding bareAt streamNamesDiffer
     names =
-        pairs-keep-of bareUsed streamNamesDiffer zeroBare ss
-        (λ i j b l u w.
-        let s : StreamNo = record { 0 = i } in
-        let t : StreamNo = record { 0 = j } in
-        names-differ-of (bareAt ss s .file) (bareAt ss t .file) (units (bareAt ss s .name))
-        (units (bareAt ss t .name)) (c .namesDiffer s t b u w))
+        differ-of bareUsed (λ k. k .file) (λ k. units (k .name)) zeroBare ss
+        (λ i j b u w. c .namesDiffer (record { 0 = i }) (record { 0 = j }) b u w)
 
     file-streams-all : allFrom (streamsOfFile (keep bareUsed ss)) 0 fs ≡ true
     file-streams-all =
