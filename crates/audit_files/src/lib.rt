@@ -6,12 +6,10 @@ use records::constants::DIRECTORY;
 use records::slots::file_used;
 use records::slots::is_directory;
 ghost use mathlib.Core.Path.{_≡_};
-ghost use mathlib.Core.Bool.{cond};
 ghost use lib.ListN.{replicate};
 ghost use Rattle.lists.specs.Lists.{all, same};
-ghost use Rattle.records.specs.Slots.{fileUsed};
 ghost use Rattle.consistency.specs.Relations.{validMasks};
-ghost use Rattle.consistency.specs.Test.{freeFile, usedFile, filesTest};
+ghost use Rattle.consistency.specs.Test.{freeFile, usedFile, fileTest, filesTest};
 
 // The attributes that a file may have.
 const ATTRIBUTES: u32 = 0x3137;
@@ -67,7 +65,7 @@ fn used_file(f: File) -> bool
 }
 
 fn slot_consistent(f: File) -> bool
-    ensures { λ r. ⌜ r ≡ cond (fileUsed f) (usedFile f) (freeFile f) ⌝ }
+    ensures { λ r. ⌜ r ≡ fileTest f ⌝ }
 {
     if file_used(f) {
         used_file(f)

@@ -17,9 +17,8 @@ use Rattle.tables.specs.Tables.{fileAt}
 use Rattle.records.specs.declared.FileNo.{FileNo}
 use Rattle.records.specs.declared.File.{File}
 use Rattle.records.specs.declared.Link.{Link}
-use Rattle.consistency.specs.Test.{freeLink, usedLink, linkNamesDiffer}
+use Rattle.consistency.specs.Test.{freeLink, usedLink, linkTest, linkNamesDiffer}
 use Rattle.audit_names.proofs.StoredUnits.{zeros-stored}
-use Rattle.audit_parents.proofs.ParentsScan.{slotTest}
 
 -- a name without a first unit is well stored exactly when it is all zero
 pub free-name : (l : Link) → linkUsed l ≡ false → wellStored fileNameLimit (l .name) ≡ same (l .name) (replicate fileNameLimit 0)
@@ -69,10 +68,10 @@ module _ (fs : List File) (l : Link) (size : length fs ≡ 128) where
   either true p q = p
   either false p q = q
 
-  pub past-file : 128 ≤ l .file .0 → slotTest fs l ≡ false
+  pub past-file : 128 ≤ l .file .0 → linkTest fs l ≡ false
   past-file h = either (linkUsed l) (used-past-file h) (free-past-file h)
 
-  pub past-parent : 128 ≤ l .parent .0 → slotTest fs l ≡ false
+  pub past-parent : 128 ≤ l .parent .0 → linkTest fs l ≡ false
   past-parent h = either (linkUsed l) (used-past-parent h) (free-past-parent h)
 
   -- any other is tested by the types of its file and its parent, whatever stands past the end
@@ -81,7 +80,7 @@ module _ (fs : List File) (l : Link) (size : length fs ≡ 128) where
       (wellStored fileNameLimit (l .name) && validFileName fileNameLimit (units (l .name))
       && isUsed (getD fs (l .file .0) d .«file_type»)
       && isDirectory (getD fs (l .parent .0) d .«file_type»)) (freeLink l)
-      ≡ slotTest fs l
+      ≡ linkTest fs l
   unfolding usedLink fileUsed fileAt
   slot-is d h k =
       rw (getD-default fs (l .file .0) d zeroFile (omega arith), getD-default fs (l .parent .0) d zeroFile (omega arith))

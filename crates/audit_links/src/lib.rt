@@ -1,8 +1,7 @@
-// The audit of the links table: each link by itself, then all pairs, then the links and the parents of each file
-// (`audit_parents`).
+// The audit of the links table by itself: each link, then every two. The links and the parents of each file are
+// `audit_parents`.
 use audit_names::name_length;
 use audit_names::well_stored;
-use audit_parents::files_linked;
 use names::valid_file_name;
 use records::FileType;
 use records::Link;
@@ -17,7 +16,7 @@ ghost use Rattle.names.specs.Names.{validFileName};
 ghost use Rattle.stored_names.specs.StoredNames.{units, wellStored};
 ghost use Rattle.records.specs.Sizes.{fileNameLimit};
 ghost use Rattle.records.specs.Slots.{isUsed, isDirectory, linkUsed};
-ghost use Rattle.consistency.specs.Test.{freeLink, usedLink, linkNamesDiffer, linksTest};
+ghost use Rattle.consistency.specs.Test.{freeLink, linkTest, linkNamesDiffer};
 
 // A free slot is all zero. Its name has no first unit, so it is well stored exactly when it is all zero.
 fn free_link(l: Link) -> bool
@@ -75,7 +74,7 @@ fn slot_consistent(l: Link, of: FileType, above: FileType) -> bool
 
 // Each slot passes. No slot that does, used or free, has a number past the files.
 fn slots_consistent(v: Volume) -> bool
-    ensures { λ r. ⌜ r ≡ all (λ l. cond (linkUsed l) (usedLink (v .files) l) (freeLink l)) (v .links) ⌝ }
+    ensures { λ r. ⌜ r ≡ all (linkTest (v .files)) (v .links) ⌝ }
 {
     let mut i: usize = 0;
     while i < 192 {
@@ -136,14 +135,13 @@ fn names_differ(v: Volume) -> bool
     true
 }
 
-pub fn links_consistent(v: Volume) -> bool
-    ensures { λ r. ⌜ r ≡ linksTest (v .files) (v .links) ⌝ }
+// Each slot passes, and every two names of one directory differ.
+pub fn link_slots_consistent(v: Volume) -> bool
+    ensures { λ r. ⌜ r ≡ (all (linkTest (v .files)) (v .links)
+        && pairs linkNamesDiffer (keep linkUsed (v .links))) ⌝ }
 {
     if !slots_consistent(v) {
         return false;
     }
-    if !names_differ(v) {
-        return false;
-    }
-    files_linked(v)
+    names_differ(v)
 }

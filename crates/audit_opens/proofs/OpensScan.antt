@@ -18,7 +18,7 @@ use Rattle.records.specs.Namespace.{BareStream, zeroBare, bareUsed, bareAt, bar
 use Rattle.records.specs.declared.Stream.{Stream}
 use Rattle.records.specs.declared.Open.{Open}
 use Rattle.consistency.specs.Relations.{live}
-use Rattle.consistency.specs.Test.{freeOpen, usedOpen, handlesDiffer, opensAgree, opensTest}
+use Rattle.consistency.specs.Test.{freeOpen, usedOpen, openTest, handlesDiffer, opensAgree, opensTest}
 
 -- what stands at a number, of the streams without their counts
 pub bare-at : (ss : List Stream) (n : ℕ) (d : Stream) → n < length ss → getD (map bare ss) n zeroBare ≡ bare (getD ss n d)
@@ -29,10 +29,7 @@ bare-at ss n d h =
 abbrev pub agree : Open → Open → Bool
 agree o q = handlesDiffer o q && opensAgree o q
 
--- a row by itself, and with the stream that it names
-abbrev pub rowTest : List BareStream → ℕ → Open → Bool
-rowTest ss next o = cond (openUsed o) (usedOpen ss next o) (freeOpen o)
-
+-- a row's test, with the stream that it names
 abbrev pub namedTest : Stream → ℕ → Open → Bool
 namedTest s next o =
     cond (openUsed o)
@@ -45,17 +42,17 @@ namedTest s next o =
     (freeOpen o)
 
 module _ (ss : List Stream) (next : ℕ) (o : Open) where
-  row-named : (d : Stream) → o .stream .0 < length ss → rowTest (map bare ss) next o ≡ namedTest (getD ss (o .stream .0) d) next o
+  row-named : (d : Stream) → o .stream .0 < length ss → openTest (map bare ss) next o ≡ namedTest (getD ss (o .stream .0) d) next o
   unfolding usedOpen bareUsed streamUsed bareAt bare
   row-named d h = rw (usedOpen, bare-at ss (o .stream .0) d h)
 
   -- what the code found of the row
   pub row-found : (d : Stream) {found b : Bool} → o .stream .0 < length ss → found ≡ namedTest (getD ss (o .stream .0) d) next o
-      → found ≡ b → rowTest (map bare ss) next o ≡ b
+      → found ≡ b → openTest (map bare ss) next o ≡ b
   row-found d h e f = row-named d h ∙ sym e ∙ f
 
   -- a row that names no slot: as a used one it names a free stream, and a free one is not all zero
-  pub row-past : length ss ≤ o .stream .0 → 0 < length ss → rowTest (map bare ss) next o ≡ false
+  pub row-past : length ss ≤ o .stream .0 → 0 < length ss → openTest (map bare ss) next o ≡ false
   unfolding usedOpen bareUsed bareAt isUsed freeOpen
   row-past h positive = go (openUsed o) refl
     where
@@ -71,7 +68,7 @@ module _ (ss : List Stream) (next : ℕ) (o : Open) where
           rw (freeOpen, ne-eqb (o .stream .0) 0 (λ e. let z : ⊥ = omega arith in z))
           (any-false (eqb (o .file .0) 0) (eqb (o .granted) 0) (eqb (o .share) 0))
 
-      go : (b : Bool) → openUsed o ≡ b → rowTest (map bare ss) next o ≡ false
+      go : (b : Bool) → openUsed o ≡ b → openTest (map bare ss) next o ≡ false
       go true e = rw e named-free
       go false e = rw e not-zero
 
@@ -81,12 +78,12 @@ module _ (ss : List BareStream) (next : ℕ) (os : List Open) (size : length os 
   regroup true b c = refl
   regroup false b c = refl
 
-  pub opens-next : 0 < next → opensTest ss next os ≡ (all (rowTest ss next) os && pairs agree (live os))
+  pub opens-next : 0 < next → opensTest ss next os ≡ (all (openTest ss next) os && pairs agree (live os))
   unfolding opensTest
   opens-next h =
       rw (opensTest, eq-eqb (length os) openSlots size, le-leb 1 next (omega arith))
-      (regroup (all (rowTest ss next) os) (pairs handlesDiffer (live os)) (pairs opensAgree (live os))
-      ∙ ap (λ (b : Bool). all (rowTest ss next) os && b) (sym (pairs-and handlesDiffer opensAgree (live os))))
+      (regroup (all (openTest ss next) os) (pairs handlesDiffer (live os)) (pairs opensAgree (live os))
+      ∙ ap (λ (b : Bool). all (openTest ss next) os && b) (sym (pairs-and handlesDiffer opensAgree (live os))))
 
   pub opens-none : next ≡ 0 → opensTest ss next os ≡ false
   unfolding opensTest

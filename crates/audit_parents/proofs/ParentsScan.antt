@@ -22,14 +22,10 @@ use Rattle.records.specs.declared.FileNo.{FileNo}
 use Rattle.records.specs.declared.File.{File}
 use Rattle.records.specs.declared.Link.{Link}
 use Rattle.consistency.specs.Relations.{linkTo, parentOf, reaches}
-use Rattle.consistency.specs.Test.{freeLink, usedLink, linksOfFile}
+use Rattle.consistency.specs.Test.{freeLink, usedLink, linkTest, linksOfFile}
 use Rattle.consistency.proofs.Slots.{same-file}
 use Rattle.consistency.proofs.Numbered.{file-in, directory-file}
 use Rattle.consistency.proofs.Parents.{link-to-used, links-kept, reaches-kept}
-
--- a slot's test
-abbrev pub slotTest : List File → Link → Bool
-slotTest fs l = cond (linkUsed l) (usedLink fs l) (freeLink l)
 
 -- a link names the file, or not
 pub names-it : (f : FileNo) (l : Link) → linkUsed l ≡ true → f .0 ≡ l .file .0 → linkTo f l ≡ true
@@ -97,7 +93,7 @@ count-more xs l ls u b n f e =
 
 -- where each link passes its test, a parent is no further than the files
 module _ (fs : List File) where
-  parent-there : (l : Link) → linkUsed l ≡ true → slotTest fs l ≡ true → l .parent .0 < length fs
+  parent-there : (l : Link) → linkUsed l ≡ true → linkTest fs l ≡ true → l .parent .0 < length fs
   unfolding usedLink
   parent-there l u h =
       file-in fs (l .parent)
@@ -108,15 +104,15 @@ module _ (fs : List File) where
       && fileUsed (fileAt fs (l .file)))
       (isDirectory (fileAt fs (l .parent) .«file_type»)) (sym (cond-true (usedLink fs l) (freeLink l) u) ∙ h)))
 
-  pub parent-in : (ls : List Link) → all (slotTest fs) ls ≡ true → (f : FileNo) → f .0 < length fs → parentOf ls f .0 < length fs
+  pub parent-in : (ls : List Link) → all (linkTest fs) ls ≡ true → (f : FileNo) → f .0 < length fs → parentOf ls f .0 < length fs
   unfolding all parentOf
   parent-in [] h f b = b
   parent-in (l ∷ ls) h f b =
-      go (linkTo f l) refl (parent-in ls (and-right (slotTest fs l) (all (slotTest fs) ls) h) f b)
+      go (linkTo f l) refl (parent-in ls (and-right (linkTest fs l) (all (linkTest fs) ls) h) f b)
     where
       go : (t : Bool) → linkTo f l ≡ t → parentOf ls f .0 < length fs → parentOf (l ∷ ls) f .0 < length fs
       go true e k =
-          let z = parent-there l (link-to-used f l e) (and-left (slotTest fs l) (all (slotTest fs) ls) h) in
+          let z = parent-there l (link-to-used f l e) (and-left (linkTest fs l) (all (linkTest fs) ls) h) in
           omega (arith, parent-here f l ls e)
       go false e k = omega (arith, parent-other f l ls e)
 

@@ -14,7 +14,7 @@ ghost use Rattle.records.specs.Slots.{linkUsed};
 ghost use Rattle.records.specs.declared.FileNo.{FileNo};
 ghost use Rattle.records.specs.declared.Link.{Link};
 ghost use Rattle.consistency.specs.Relations.{linkTo, parentOf, reaches};
-ghost use Rattle.consistency.specs.Test.{freeLink, usedLink, linksOfFile};
+ghost use Rattle.consistency.specs.Test.{linkTest, linksOfFile};
 
 // How many used links name each file.
 fn link_counts(v: Volume) -> [u16; 128]
@@ -98,7 +98,7 @@ fn links_wanted(n: usize) -> u16
 // consistent by itself, so that no parent is past the table's end.
 pub fn files_linked(v: Volume) -> bool
     ensures { λ r.
-        ⌜ (all (λ l. cond (linkUsed l) (usedLink (v .files) l) (freeLink l)) (v .links) ≡ true
+        ⌜ (all (linkTest (v .files)) (v .links) ≡ true
         → r ≡ allFrom (linksOfFile (keep linkUsed (v .links))) 0 (v .files)) ⌝ }
 {
     let counts = link_counts(v);

@@ -25,12 +25,9 @@ use Rattle.records.specs.declared.FileType.{FileType}
 use Rattle.records.specs.declared.File.{File}
 use Rattle.records.specs.declared.Stream.{Stream}
 use Rattle.consistency.specs.Relations.{streamOf, unnamedOf}
-use Rattle.consistency.specs.Test.{sameBool, freeStream, usedStream, streamNamesDiffer, streamsOfFile, streamsTest}
+use Rattle.consistency.specs.Test.{sameBool, freeStream, usedStream, streamTest, streamNamesDiffer, streamsOfFile, streamsTest}
 
--- a stream by itself, and with the type of its file
-abbrev pub slotTest : List File → BareStream → Bool
-slotTest fs s = cond (bareUsed s) (usedStream fs s) (freeStream s)
-
+-- a stream's test, with the type of its file
 abbrev pub typedTest : FileType → Stream → Bool
 typedTest of s =
     cond (streamUsed s)
@@ -41,17 +38,17 @@ typedTest of s =
     (freeStream (bare s))
 
 module _ (fs : List File) (s : Stream) where
-  slot-typed : (d : File) → s .file .0 < length fs → slotTest fs (bare s) ≡ typedTest (getD fs (s .file .0) d .«file_type») s
+  slot-typed : (d : File) → s .file .0 < length fs → streamTest fs (bare s) ≡ typedTest (getD fs (s .file .0) d .«file_type») s
   unfolding usedStream bareUsed streamUsed fileUsed fileAt bare
   slot-typed d h = rw (usedStream, getD-default fs (s .file .0) zeroFile d h)
 
   -- what the code found of the stream
   pub slot-found : (d : File) {found b : Bool} → s .file .0 < length fs
-      → found ≡ typedTest (getD fs (s .file .0) d .«file_type») s → found ≡ b → slotTest fs (bare s) ≡ b
+      → found ≡ typedTest (getD fs (s .file .0) d .«file_type») s → found ≡ b → streamTest fs (bare s) ≡ b
   slot-found d h e f = slot-typed d h ∙ sym e ∙ f
 
   -- a stream whose file is no slot: as a used one it is of a free file, and a free one is not all zero
-  pub slot-past : length fs ≤ s .file .0 → 0 < length fs → slotTest fs (bare s) ≡ false
+  pub slot-past : length fs ≤ s .file .0 → 0 < length fs → streamTest fs (bare s) ≡ false
   unfolding usedStream bareUsed fileUsed fileAt isUsed freeStream bare
   slot-past h positive = go (bareUsed (bare s)) refl
     where
@@ -67,7 +64,7 @@ module _ (fs : List File) (s : Stream) where
       not-zero : freeStream (bare s) ≡ false
       not-zero = rw (freeStream, ne-eqb (s .file .0) 0 (λ e. let z : ⊥ = omega arith in z))
 
-      go : (b : Bool) → bareUsed (bare s) ≡ b → slotTest fs (bare s) ≡ false
+      go : (b : Bool) → bareUsed (bare s) ≡ b → streamTest fs (bare s) ≡ false
       go true e = rw e of-free
       go false e = rw e not-zero
 
@@ -225,7 +222,7 @@ files-found fs ss size every unnamed l h =
 -- the whole test, of a table of its length
 pub streams-parts : (fs : List File) (ss : List Stream) → length ss ≡ streamSlots
     → streamsTest fs (map bare ss)
-    ≡ (all (slotTest fs) (map bare ss)
+    ≡ (all (streamTest fs) (map bare ss)
     && pairs streamNamesDiffer (keep bareUsed (map bare ss))
     && allFrom (streamsOfFile (keep bareUsed (map bare ss))) 0 fs)
 unfolding streamsTest

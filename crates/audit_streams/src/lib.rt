@@ -25,7 +25,7 @@ ghost use Rattle.records.specs.Sizes.{streamNameLimit};
 ghost use Rattle.records.specs.Slots.{isUsed, isDirectory, fileUsed, streamUsed};
 ghost use Rattle.records.specs.Namespace.{bare, bareUsed, namespace};
 ghost use Rattle.consistency.specs.Relations.{streamOf, unnamedOf};
-ghost use Rattle.consistency.specs.Test.{sameBool, freeStream, usedStream, streamNamesDiffer, streamsOfFile, streamsTest};
+ghost use Rattle.consistency.specs.Test.{sameBool, freeStream, streamTest, streamNamesDiffer, streamsOfFile, streamsTest};
 
 // Of each file, how many streams it has and how many of them have the empty name.
 struct FileStreams {
@@ -101,7 +101,7 @@ fn slot_consistent(s: Stream, of: FileType) -> bool
 
 // A slot whose file is no slot of the files table is neither free nor consistent.
 fn slots_consistent(v: Volume) -> bool
-    ensures { λ r. ⌜ r ≡ all (λ s. cond (bareUsed s) (usedStream (v .files) s) (freeStream s)) (namespace v .streams) ⌝ }
+    ensures { λ r. ⌜ r ≡ all (streamTest (v .files)) (namespace v .streams) ⌝ }
 {
     let mut i: usize = 0;
     while i < STREAM_SLOTS {

@@ -20,7 +20,7 @@ use Rattle.records.specs.declared.Link.{Link}
 use Rattle.names.specs.Names.{validFileName}
 use Rattle.stored_names.specs.StoredNames.{units, wellStored}
 use Rattle.consistency.specs.Relations.{linkTo, climb, reaches}
-use Rattle.consistency.specs.Test.{freeLink, usedLink, linkNamesDiffer, linksOfFile, linksTest}
+use Rattle.consistency.specs.Test.{freeLink, usedLink, linkTest, linkNamesDiffer, linksOfFile, linksTest}
 use Rattle.consistency.specs.Consistent.{FilesConsistent, LinksConsistent}
 use Rattle.consistency.proofs.Slots.{same-file, guard-iff, used-below, slot-used, slot-free, slots-of}
 use Rattle.consistency.proofs.Numbered.{directory-file, files-at, files-of, differ-at, differ-of}
@@ -139,7 +139,7 @@ module _ (fs : List File) (files : FilesConsistent fs) (ls : List Link) where
         let l : LinkNo = record { 0 = i } in
         directory-file fs (linkAt ls l .parent) (c .parentsDirectories l w)) f u (q .0) (q .1)
 
-    slots : all (λ l. cond (linkUsed l) (usedLink fs l) (freeLink l)) ls ≡ true
+    slots : all (linkTest fs) ls ≡ true
     unfolding linkAt
     slots =
         slots-of linkUsed zeroLink zero-link-free (usedLink fs) freeLink zero-link ls

@@ -17,7 +17,7 @@ use Rattle.records.specs.Namespace.{BareStream, bareUsed, bareAt}
 use Rattle.records.specs.declared.Open.{Open}
 use Rattle.sharing.specs.Sharing.{conflicting}
 use Rattle.consistency.specs.Relations.{live}
-use Rattle.consistency.specs.Test.{freeOpen, usedOpen, handlesDiffer, opensAgree, opensTest}
+use Rattle.consistency.specs.Test.{freeOpen, usedOpen, openTest, handlesDiffer, opensAgree, opensTest}
 use Rattle.consistency.specs.Consistent.{OpensConsistent, openAt}
 use Rattle.consistency.proofs.Slots.{same-file, same-stream, same-handle, used-below, slot-used, slot-free, slots-of}
 use Rattle.consistency.proofs.Numbered.{excluded, excludes}
@@ -126,7 +126,7 @@ module _ (ss : List BareStream) (next : ℕ) (os : List Open) where
       }
 
   module _ (c : OpensConsistent ss next os) where
-    slots : all (λ o. cond (openUsed o) (usedOpen ss next o) (freeOpen o)) os ≡ true
+    slots : all (openTest ss next) os ≡ true
     slots =
         slots-of openUsed zeroOpen zero-open-free (usedOpen ss next) freeOpen zero-open os
         (λ i u.

@@ -19,7 +19,7 @@ use Rattle.records.specs.declared.File.{File}
 use Rattle.names.specs.Names.{validStreamName}
 use Rattle.stored_names.specs.StoredNames.{units, wellStored}
 use Rattle.consistency.specs.Relations.{streamOf, unnamedOf}
-use Rattle.consistency.specs.Test.{freeStream, usedStream, streamNamesDiffer, streamsOfFile, streamsTest}
+use Rattle.consistency.specs.Test.{freeStream, usedStream, streamTest, streamNamesDiffer, streamsOfFile, streamsTest}
 use Rattle.consistency.specs.Consistent.{StreamsConsistent}
 use Rattle.consistency.proofs.Slots.{same-file, unused, same-type, same-bool-iff, guard-iff, used-below, slot-used, slot-free, slots-of}
 use Rattle.consistency.proofs.Numbered.{directory-file, files-at, files-of, differ-at, differ-of}
@@ -132,7 +132,7 @@ module _ (fs : List File) (ss : List BareStream) where
       }
 
   module _ (c : StreamsConsistent fs ss) where
-    slots : all (λ s. cond (bareUsed s) (usedStream fs s) (freeStream s)) ss ≡ true
+    slots : all (streamTest fs) ss ≡ true
     unfolding bareAt
     slots =
         slots-of bareUsed zeroBare zero-stream-free (usedStream fs) freeStream zero-stream ss

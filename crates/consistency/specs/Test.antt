@@ -41,11 +41,15 @@ usedFile f =
     && sameBool (has (f .attributes) directory) (isDirectory (f .«file_type»))
     && validMasks (f .masks)
 
+-- a slot, used or free
+abbrev pub fileTest : File → Bool
+fileTest f = cond (fileUsed f) (usedFile f) (freeFile f)
+
 unfoldable pub filesTest : List File → Bool
 filesTest fs =
     eqb (length fs) fileSlots
     && isDirectory (fileAt fs root .«file_type»)
-    && all (λ f. cond (fileUsed f) (usedFile f) (freeFile f)) fs
+    && all fileTest fs
 
 -- links
 
@@ -58,6 +62,9 @@ usedLink fs l =
     && validFileName fileNameLimit (units (l .name))
     && fileUsed (fileAt fs (l .file))
     && isDirectory (fileAt fs (l .parent) .«file_type»)
+
+abbrev pub linkTest : List File → Link → Bool
+linkTest fs l = cond (linkUsed l) (usedLink fs l) (freeLink l)
 
 unfoldable pub linkNamesDiffer : Link → Link → Bool
 linkNamesDiffer l m = not (eqb (l .parent .0) (m .parent .0) && same (units (l .name)) (units (m .name)))
@@ -72,7 +79,7 @@ linksOfFile ls n f =
 unfoldable pub linksTest : List File → List Link → Bool
 linksTest fs ls =
     eqb (length ls) linkSlots
-    && all (λ l. cond (linkUsed l) (usedLink fs l) (freeLink l)) ls
+    && all (linkTest fs) ls
     && pairs linkNamesDiffer (keep linkUsed ls)
     && allFrom (linksOfFile (keep linkUsed ls)) 0 fs
 
@@ -88,6 +95,9 @@ usedStream fs s =
     && fileUsed (fileAt fs (s .file))
     && sameBool (isDirectory (s .streamType)) (isDirectory (fileAt fs (s .file) .«file_type»))
 
+abbrev pub streamTest : List File → BareStream → Bool
+streamTest fs s = cond (bareUsed s) (usedStream fs s) (freeStream s)
+
 unfoldable pub streamNamesDiffer : BareStream → BareStream → Bool
 streamNamesDiffer s t = not (eqb (s .file .0) (t .file .0) && same (units (s .name)) (units (t .name)))
 
@@ -102,7 +112,7 @@ streamsOfFile ss n f =
 unfoldable pub streamsTest : List File → List BareStream → Bool
 streamsTest fs ss =
     eqb (length ss) streamSlots
-    && all (λ s. cond (bareUsed s) (usedStream fs s) (freeStream s)) ss
+    && all (streamTest fs) ss
     && pairs streamNamesDiffer (keep bareUsed ss)
     && allFrom (streamsOfFile (keep bareUsed ss)) 0 fs
 
@@ -120,6 +130,9 @@ usedOpen ss next o =
     && leb (o .share) 7
     && ltb (o .handle .0) next
 
+abbrev pub openTest : List BareStream → ℕ → Open → Bool
+openTest ss next o = cond (openUsed o) (usedOpen ss next o) (freeOpen o)
+
 unfoldable pub handlesDiffer : Open → Open → Bool
 handlesDiffer o q = not (eqb (o .handle .0) (q .handle .0))
 
@@ -130,7 +143,7 @@ unfoldable pub opensTest : List BareStream → ℕ → List Open → Bool
 opensTest ss next os =
     eqb (length os) openSlots
     && leb 1 next
-    && all (λ o. cond (openUsed o) (usedOpen ss next o) (freeOpen o)) os
+    && all (openTest ss next) os
     && pairs handlesDiffer (live os)
     && pairs opensAgree (live os)
 

@@ -2,7 +2,7 @@
 -- asked is what the rest of the table says.
 use Prim.Native.Nat.{_-_}
 use mathlib.Core.Path.{_≡_, sym, ap, _∙_}
-use mathlib.Core.Bool.{Bool, cond}
+use mathlib.Core.Bool.{Bool}
 use native.Mathlib.Omega.{arith}
 use lib.ListN.{drop}
 use borrow.Author.Needs.{needs}
@@ -11,20 +11,17 @@ use Rattle.lists.specs.Lists.{all}
 use Rattle.lists.proofs.Default.{getD-default}
 use Rattle.lists.proofs.Scan.{all-end}
 use Rattle.lists.proofs.Passes.{pass-stops, pass-next}
-use Rattle.records.specs.Slots.{zeroFile, fileUsed, isDirectory}
+use Rattle.records.specs.Slots.{zeroFile, isDirectory}
 use Rattle.tables.specs.Tables.{fileAt}
 use Rattle.records.specs.declared.File.{File}
 use Rattle.records.proofs.Lengths.{files-length}
 use Rattle.records.proofs.Elements.{arraylessFile}
-use Rattle.consistency.specs.Test.{freeFile, usedFile, filesTest}
+use Rattle.consistency.specs.Test.{fileTest, filesTest}
 use Rattle.audit_files.proofs.files_consistent.Statement.{statement}
 use Rattle.audit_files.proofs.files_consistent.Tie as tie
 
-abbrev slotTest : File → Bool
-slotTest f = cond (fileUsed f) (usedFile f) (freeFile f)
-
 abbrev Inv-loop : tie.InvT-loop
-Inv-loop v i₀ i = filesTest (v .files) ≡ all slotTest (drop i (v .files))
+Inv-loop v i₀ i = filesTest (v .files) ≡ all fileTest (drop i (v .files))
 
 abbrev μ-loop : tie.MeasureT-loop
 μ-loop v i₀ i = 128 - i
@@ -72,7 +69,7 @@ returns-2 c =
     let h = files-length (a .args .t1) _ (a .good .0) in
     sym
     (l .loop .inv
-    ∙ pass-stops slotTest (a .args .t1 .files) (l .loop .i) arraylessFile (omega arith) (s .slot-consistent .ensures) (c .if2 .taken))
+    ∙ pass-stops fileTest (a .args .t1 .files) (l .loop .i) arraylessFile (omega arith) (s .slot-consistent .ensures) (c .if2 .taken))
 
 add-i : tie.Need-add-i Inv-loop μ-loop
 add-i c = search needs
@@ -87,14 +84,14 @@ loop-again c =
     let a = l .before .before .before .before in
     let h = files-length (a .args .t1) _ (a .good .0) in
     l .loop .inv
-    ∙ pass-next slotTest (a .args .t1 .files) (l .loop .i) arraylessFile (omega arith) (s .slot-consistent .ensures) (c .if2 .left)
+    ∙ pass-next fileTest (a .args .t1 .files) (l .loop .i) arraylessFile (omega arith) (s .slot-consistent .ensures) (c .if2 .left)
 
 returns-3 : tie.Need-returns-3 Inv-loop μ-loop
 returns-3 c =
     let l = c .before in
     let a = l .before .before .before .before in
     let h = files-length (a .args .t1) _ (a .good .0) in
-    sym (l .loop .inv ∙ all-end slotTest (a .args .t1 .files) (l .loop .i) (omega arith))
+    sym (l .loop .inv ∙ all-end fileTest (a .args .t1 .files) (l .loop .i) (omega arith))
 
 pub files-consistent-spec : {M : Type 1} → statement M
 files-consistent-spec =

@@ -10,13 +10,13 @@ use Rattle.lists.proofs.Scan.{all-end, all-fails}
 use Rattle.lists.proofs.Passes.{pass-stops, pass-next}
 use Rattle.records.proofs.Lengths.{files-length, links-length}
 use Rattle.records.proofs.Elements.{arraylessFile, arraylessLink}
-use Rattle.audit_parents.proofs.ParentsScan.{slotTest}
+use Rattle.consistency.specs.Test.{linkTest}
 use Rattle.audit_links.proofs.LinksScan.{past-file, past-parent, slot-is}
 use Rattle.audit_links.proofs.slots_consistent.Statement.{statement}
 use Rattle.audit_links.proofs.slots_consistent.Tie as tie
 
 abbrev Inv-loop : tie.InvT-loop
-Inv-loop v i₀ i = all (slotTest (v .files)) (v .links) ≡ all (slotTest (v .files)) (drop i (v .links))
+Inv-loop v i₀ i = all (linkTest (v .files)) (v .links) ≡ all (linkTest (v .files)) (drop i (v .links))
 
 abbrev μ-loop : tie.MeasureT-loop
 μ-loop v i₀ i = 192 - i
@@ -45,7 +45,7 @@ returns c =
     let x = getD (v .links) (l .loop .i) arraylessLink in
     sym
     (l .loop .inv
-    ∙ all-fails (slotTest (v .files)) (v .links) (l .loop .i) arraylessLink (omega arith)
+    ∙ all-fails (linkTest (v .files)) (v .links) (l .loop .i) arraylessLink (omega arith)
     (past-file (v .files) x (files-length v _ (a .good .0)) (c .if1 .taken)))
 
 returns-2 : tie.Need-returns-2 Inv-loop μ-loop
@@ -57,7 +57,7 @@ returns-2 c =
     let x = getD (v .links) (l .loop .i) arraylessLink in
     sym
     (l .loop .inv
-    ∙ all-fails (slotTest (v .files)) (v .links) (l .loop .i) arraylessLink (omega arith)
+    ∙ all-fails (linkTest (v .files)) (v .links) (l .loop .i) arraylessLink (omega arith)
     (past-parent (v .files) x (files-length v _ (a .good .0)) (c .if2 .taken)))
 
 mul-file : tie.Need-mul-file Inv-loop μ-loop
@@ -87,7 +87,7 @@ returns-3 c =
     let test = slot-is (v .files) x (files-length v _ (a .good .0)) arraylessFile (e .before .if1 .left) (e .if2 .left) in
     sym
     (l .loop .inv
-    ∙ pass-stops (slotTest (v .files)) (v .links) (l .loop .i) arraylessLink (omega arith) (s .slot-consistent .ensures ∙ test)
+    ∙ pass-stops (linkTest (v .files)) (v .links) (l .loop .i) arraylessLink (omega arith) (s .slot-consistent .ensures ∙ test)
     (c .if3 .taken))
 
 add-i : tie.Need-add-i Inv-loop μ-loop
@@ -107,7 +107,7 @@ loop-again c =
     let x = getD (v .links) (l .loop .i) arraylessLink in
     let test = slot-is (v .files) x (files-length v _ (a .good .0)) arraylessFile (e .before .if1 .left) (e .if2 .left) in
     l .loop .inv
-    ∙ pass-next (slotTest (v .files)) (v .links) (l .loop .i) arraylessLink (omega arith) (s .slot-consistent .ensures ∙ test)
+    ∙ pass-next (linkTest (v .files)) (v .links) (l .loop .i) arraylessLink (omega arith) (s .slot-consistent .ensures ∙ test)
     (c .if3 .left)
 
 returns-4 : tie.Need-returns-4 Inv-loop μ-loop
@@ -116,7 +116,7 @@ returns-4 c =
     let a = l .before in
     let v = a .args .t1 in
     let h = links-length v _ (a .good .0) in
-    sym (l .loop .inv ∙ all-end (slotTest (v .files)) (v .links) (l .loop .i) (omega arith))
+    sym (l .loop .inv ∙ all-end (linkTest (v .files)) (v .links) (l .loop .i) (omega arith))
 
 pub slots-consistent-spec : {M : Type 1} → statement M
 slots-consistent-spec =

@@ -13,15 +13,15 @@ use Rattle.records.specs.Slots.{zeroOpen}
 use Rattle.records.specs.Namespace.{namespace}
 use Rattle.records.proofs.Lengths.{rows-length, streams-length}
 use Rattle.consistency.specs.Relations.{live}
-use Rattle.consistency.specs.Test.{opensTest}
-use Rattle.audit_opens.proofs.OpensScan.{agree, rowTest, row-found, row-past, opens-next, opens-none}
+use Rattle.consistency.specs.Test.{openTest, opensTest}
+use Rattle.audit_opens.proofs.OpensScan.{agree, row-found, row-past, opens-next, opens-none}
 use Rattle.audit_opens.proofs.opens_consistent.Statement.{statement}
 use Rattle.audit_opens.proofs.opens_consistent.Tie as tie
 
 abbrev Inv-loop : tie.InvT-loop
 Inv-loop v t next i₀ i =
     opensTest (namespace v .streams) next (t .rows)
-    ≡ (all (rowTest (namespace v .streams) next) (drop i (t .rows)) && pairs agree (live (t .rows)))
+    ≡ (all (openTest (namespace v .streams) next) (drop i (t .rows)) && pairs agree (live (t .rows)))
 
 abbrev μ-loop : tie.MeasureT-loop
 μ-loop v t next i₀ i = 256 - i
@@ -63,7 +63,7 @@ returns-2 c =
     sym
     (l .loop .inv
     ∙ ap (λ (b : Bool). b && pairs agree (live rows))
-    (all-fails (rowTest (namespace v .streams) next) rows (l .loop .i) zeroOpen (omega arith)
+    (all-fails (openTest (namespace v .streams) next) rows (l .loop .i) zeroOpen (omega arith)
     (row-past (v .streams) next o (omega (arith, c .if2 .taken)) (omega arith))))
 
 mul-s : tie.Need-mul-s Inv-loop μ-loop
@@ -89,7 +89,7 @@ returns-3 c =
     sym
     (l .loop .inv
     ∙ ap (λ (b : Bool). b && pairs agree (live rows))
-    (all-fails (rowTest (namespace v .streams) next) rows (l .loop .i) zeroOpen (omega arith)
+    (all-fails (openTest (namespace v .streams) next) rows (l .loop .i) zeroOpen (omega arith)
     (row-found (v .streams) next o _ (omega (arith, c .before .before .before .if2 .left)) (c .before .row-consistent .ensures)
     (not-true _ (c .if3 .taken)))))
 
@@ -112,7 +112,7 @@ loop-again c =
     let o = getD rows (l .loop .i) zeroOpen in
     l .loop .inv
     ∙ ap (λ (b : Bool). b && pairs agree (live rows))
-    (all-next (rowTest (namespace v .streams) next) rows (l .loop .i) zeroOpen (omega arith)
+    (all-next (openTest (namespace v .streams) next) rows (l .loop .i) zeroOpen (omega arith)
     (row-found (v .streams) next o _ (omega (arith, c .before .before .before .if2 .left)) (c .before .row-consistent .ensures)
     (not-false _ (c .if3 .left))))
 
@@ -131,7 +131,7 @@ returns-4 c =
     ∙ sym
     (l .loop .inv
     ∙ ap (λ (b : Bool). b && pairs agree (live rows))
-    (all-end (rowTest (namespace v .streams) next) rows (l .loop .i) (omega arith)))
+    (all-end (openTest (namespace v .streams) next) rows (l .loop .i) (omega arith)))
 
 pub opens-consistent-spec : {M : Type 1} → statement M
 opens-consistent-spec =

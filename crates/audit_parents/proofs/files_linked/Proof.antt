@@ -17,8 +17,8 @@ use Rattle.records.specs.declared.Volume.{Volume}
 use Rattle.records.proofs.Lengths.{files-length}
 use Rattle.records.proofs.Elements.{arraylessFile}
 use Rattle.consistency.specs.Relations.{parentOf}
-use Rattle.consistency.specs.Test.{linksOfFile}
-use Rattle.audit_parents.proofs.ParentsScan.{slotTest, parent-in, unused-passes, wrong-count, right-count}
+use Rattle.consistency.specs.Test.{linkTest, linksOfFile}
+use Rattle.audit_parents.proofs.ParentsScan.{parent-in, unused-passes, wrong-count, right-count}
 use Rattle.audit_parents.proofs.files_linked.Statement.{statement}
 use Rattle.audit_parents.proofs.files_linked.Tie as tie
 
@@ -27,7 +27,7 @@ abbrev fileTest : Volume → ℕ → File → Bool
 fileTest v n f = linksOfFile (keep linkUsed (v .links)) n f
 
 abbrev Slots : Volume → Type 0
-Slots v = all (slotTest (v .files)) (v .links) ≡ true
+Slots v = all (linkTest (v .files)) (v .links) ≡ true
 
 abbrev number : ℕ → FileNo
 number n = record { 0 = n }

@@ -12,20 +12,21 @@ use Rattle.lists.proofs.Sweeps.{all-map}
 use Rattle.records.specs.Namespace.{bare, namespace}
 use Rattle.records.proofs.Lengths.{files-length, streams-length}
 use Rattle.records.proofs.Elements.{arraylessStream}
-use Rattle.audit_streams.proofs.StreamsScan.{slotTest, slot-found, slot-past}
+use Rattle.consistency.specs.Test.{streamTest}
+use Rattle.audit_streams.proofs.StreamsScan.{slot-found, slot-past}
 use Rattle.audit_streams.proofs.slots_consistent.Statement.{statement}
 use Rattle.audit_streams.proofs.slots_consistent.Tie as tie
 
 abbrev Inv-loop : tie.InvT-loop
 Inv-loop v i₀ i =
-    all (slotTest (v .files)) (namespace v .streams) ≡ all (λ s. slotTest (v .files) (bare s)) (drop i (v .streams))
+    all (streamTest (v .files)) (namespace v .streams) ≡ all (λ s. streamTest (v .files) (bare s)) (drop i (v .streams))
 
 abbrev μ-loop : tie.MeasureT-loop
 μ-loop v i₀ i = 256 - i
 
 loop-holds : tie.Need-loop-holds Inv-loop μ-loop
 unfolding namespace
-loop-holds c = all-map bare (slotTest (c .args .t1 .files)) (c .args .t1 .streams)
+loop-holds c = all-map bare (streamTest (c .args .t1 .files)) (c .args .t1 .streams)
 
 mul-s : tie.Need-mul-s Inv-loop μ-loop
 mul-s c = search needs
@@ -45,7 +46,7 @@ returns c =
     let streams = streams-length v _ (a .good .0) in
     sym
     (l .loop .inv
-    ∙ all-fails (λ s. slotTest (v .files) (bare s)) (v .streams) (l .loop .i) arraylessStream (omega arith)
+    ∙ all-fails (λ s. streamTest (v .files) (bare s)) (v .streams) (l .loop .i) arraylessStream (omega arith)
     (slot-past (v .files) (getD (v .streams) (l .loop .i) arraylessStream) (omega (arith, c .if1 .taken)) (omega arith)))
 
 mul-f : tie.Need-mul-f Inv-loop μ-loop
@@ -66,7 +67,7 @@ returns-2 c =
     let streams = streams-length v _ (a .good .0) in
     sym
     (l .loop .inv
-    ∙ all-fails (λ s. slotTest (v .files) (bare s)) (v .streams) (l .loop .i) arraylessStream (omega arith)
+    ∙ all-fails (λ s. streamTest (v .files) (bare s)) (v .streams) (l .loop .i) arraylessStream (omega arith)
     (slot-found (v .files) (getD (v .streams) (l .loop .i) arraylessStream) _ (omega (arith, c .before .before .before .if1 .left)) (c .before .slot-consistent .ensures)
     (not-true _ (c .if2 .taken))))
 
@@ -84,7 +85,7 @@ loop-again c =
     let files = files-length v _ (a .good .0) in
     let streams = streams-length v _ (a .good .0) in
     l .loop .inv
-    ∙ all-next (λ s. slotTest (v .files) (bare s)) (v .streams) (l .loop .i) arraylessStream (omega arith)
+    ∙ all-next (λ s. streamTest (v .files) (bare s)) (v .streams) (l .loop .i) arraylessStream (omega arith)
     (slot-found (v .files) (getD (v .streams) (l .loop .i) arraylessStream) _ (omega (arith, c .before .before .before .if1 .left)) (c .before .slot-consistent .ensures)
     (not-false _ (c .if2 .left)))
 
@@ -94,7 +95,7 @@ returns-3 c =
     let a = l .before in
     let v = a .args .t1 in
     let streams = streams-length v _ (a .good .0) in
-    sym (l .loop .inv ∙ all-end (λ s. slotTest (v .files) (bare s)) (v .streams) (l .loop .i) (omega arith))
+    sym (l .loop .inv ∙ all-end (λ s. streamTest (v .files) (bare s)) (v .streams) (l .loop .i) (omega arith))
 
 pub slots-consistent-spec : {M : Type 1} → statement M
 slots-consistent-spec =
