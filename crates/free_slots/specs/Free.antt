@@ -1,8 +1,7 @@
 -- The lowest free slot of each table of the volume, from a place on (step 12).
 use Prim.Native.Nat.{ℕ}
-use mathlib.Core.Bool.{not}
 use mathlib.Core.Option.{Option, none, some}
-use Rattle.lists.specs.Lists.{firstAfter}
+use Rattle.lists.specs.Lists.{firstFree}
 use Rattle.records.specs.Slots.{fileUsed, linkUsed, streamUsed}
 use Rattle.records.specs.declared.Volume.{Volume}
 use Rattle.free_slots.specs.declared.FileSlot.{FileSlot}
@@ -23,10 +22,10 @@ streamSlot none = StreamSlot.Full
 streamSlot (some n) = StreamSlot.At (record { 0 = n })
 
 unfoldable pub freeFile : Volume → FileSlot
-freeFile v = fileSlot (firstAfter (λ f. not (fileUsed f)) 0 (v .files))
+freeFile v = fileSlot (firstFree fileUsed 0 (v .files))
 
 unfoldable pub freeLink : Volume → LinkSlot
-freeLink v = linkSlot (firstAfter (λ l. not (linkUsed l)) 0 (v .links))
+freeLink v = linkSlot (firstFree linkUsed 0 (v .links))
 
 unfoldable pub freeStream : Volume → ℕ → StreamSlot
-freeStream v from = streamSlot (firstAfter (λ s. not (streamUsed s)) from (v .streams))
+freeStream v from = streamSlot (firstFree streamUsed from (v .streams))

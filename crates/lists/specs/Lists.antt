@@ -49,6 +49,10 @@ module _ {A : Type 0} where
   unfoldable pub firstAfter : (A → Bool) → ℕ → List A → Option ℕ
   firstAfter p n xs = firstFrom p (drop n xs) n
 
+  -- the lowest free slot from n on, of a table whose used slots pass
+  abbrev pub firstFree : (A → Bool) → ℕ → List A → Option ℕ
+  firstFree used n xs = firstAfter (λ x. not (used x)) n xs
+
   -- x written at each place given, in order, by its number
   unfoldable pub writes : {N : Type 0} → (N → ℕ) → List (N × A) → List A → List A
   writes number [] xs = xs

@@ -1,10 +1,10 @@
 -- The table of opens: a row by its place, the lowest free row (step 12), and whether a file has an open (step 10).
 use Prim.Native.Nat.{ℕ}
-use mathlib.Core.Bool.{Bool, not, _&&_}
+use mathlib.Core.Bool.{Bool, _&&_}
 use mathlib.Core.Option.{Option, none, some}
 use lib.Dec.{eqb}
 use lib.ListN.{getD}
-use Rattle.lists.specs.Lists.{any, firstAfter}
+use Rattle.lists.specs.Lists.{any, firstFree}
 use Rattle.records.specs.Slots.{openUsed, zeroOpen}
 use Rattle.records.specs.declared.FileNo.{FileNo}
 use Rattle.records.specs.declared.Open.{Open}
@@ -21,7 +21,7 @@ openSlot none = OpenSlot.Full
 openSlot (some n) = OpenSlot.At n
 
 unfoldable pub freeOpen : OpenTable → OpenSlot
-freeOpen t = openSlot (firstAfter (λ o. not (openUsed o)) 0 (t .rows))
+freeOpen t = openSlot (firstFree openUsed 0 (t .rows))
 
 -- some open, counted or not, is on the file
 unfoldable pub fileHasOpen : OpenTable → FileNo → Bool

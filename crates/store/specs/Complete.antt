@@ -6,7 +6,7 @@ use mathlib.Core.List.{List, [], _∷_}
 use mathlib.Core.Option.{Option, none, some}
 use lib.Bits.{bitOr}
 use lib.Dec.{eqb}
-use Rattle.lists.specs.Lists.{firstAfter, isEmpty, padded, writes}
+use Rattle.lists.specs.Lists.{firstFree, isEmpty, padded, writes}
 use Rattle.records.specs.Sizes.{fileNameLimit, streamNameLimit, lastHandle}
 use Rattle.records.specs.Constants.{shareRead}
 use Rattle.records.specs.Slots.{fileUsed, linkUsed}
@@ -77,13 +77,13 @@ slotOr none = refused DiskFull
 slotOr (some n) = passed n
 
 unfoldable pub freeFile : Namespace → Checked FileNo
-freeFile ns = slotOr (firstAfter (λ f. not (fileUsed f)) 0 (ns .files)) >>= (λ n. passed (record { 0 = n }))
+freeFile ns = slotOr (firstFree fileUsed 0 (ns .files)) >>= (λ n. passed (record { 0 = n }))
 
 unfoldable pub freeLink : Namespace → Checked LinkNo
-freeLink ns = slotOr (firstAfter (λ l. not (linkUsed l)) 0 (ns .links)) >>= (λ n. passed (record { 0 = n }))
+freeLink ns = slotOr (firstFree linkUsed 0 (ns .links)) >>= (λ n. passed (record { 0 = n }))
 
 unfoldable pub freeStream : Namespace → ℕ → Checked StreamNo
-freeStream ns n = slotOr (firstAfter (λ s. not (bareUsed s)) n (ns .streams)) >>= (λ m. passed (record { 0 = m }))
+freeStream ns n = slotOr (firstFree bareUsed n (ns .streams)) >>= (λ m. passed (record { 0 = m }))
 
 -- the records that an open adds, at their slots, and the file and stream that it opens
 pub record Placed : Type 0 where

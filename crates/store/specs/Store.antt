@@ -6,7 +6,7 @@ use mathlib.Core.List.{List, [], _∷_, map}
 use mathlib.Core.Option.{Option, none, some}
 use lib.Dec.{eqb}
 use lib.ListN.{getD, set}
-use Rattle.lists.specs.Lists.{any, first, writes}
+use Rattle.lists.specs.Lists.{any, first, firstFree, writes}
 use Rattle.records.specs.Slots.{zeroCounts, zeroOpen, openUsed}
 use Rattle.tables.specs.Tables.{streamAt}
 use Rattle.records.specs.Namespace.{BareStream, bare, withCounts, namespace}
@@ -74,7 +74,7 @@ rowsWithOpenAt o os none = os
 rowsWithOpenAt o os (some i) = set os i o
 
 unfoldable pub rowsWithOpen : Open → List Open → List Open
-rowsWithOpen o os = rowsWithOpenAt o os (first (λ q. not (openUsed q)) os)
+rowsWithOpen o os = rowsWithOpenAt o os (firstFree openUsed 0 os)
 
 -- the open joins the table and its stream's share counts, and the next handle rises by one
 unfoldable pub volumeWithOpen : Open → Volume → Volume

@@ -6,7 +6,7 @@ use mathlib.Core.List.{List, _∷_}
 use native.Mathlib.Omega.{arith}
 use lib.ListN.{length, set}
 use borrow.Author.Tests.{eq-eqb, ne-eqb, not-true}
-use Rattle.lists.specs.Lists.{any, Permutation}
+use Rattle.lists.specs.Lists.{any, first, firstAfter, Permutation}
 use Rattle.lists.proofs.Tests.{not-is, not-both, and-fails}
 use Rattle.lists.proofs.Find.{first-found, first-some}
 use Rattle.lists.proofs.Permutations.{keep-set-in}
@@ -32,7 +32,7 @@ pub record Taken (o : Open) (os : List Open) : Type 0 where
   pub rows : rowsWithOpen o os ≡ set os slot o
 
 pub taken : (o : Open) (os : List Open) → any (λ q. not (openUsed q)) os ≡ true → Taken o os
-unfolding rowsWithOpen rowsWithOpenAt
+unfolding rowsWithOpen rowsWithOpenAt first firstAfter
 taken o os h =
     let s = first-some (λ q. not (openUsed q)) zeroOpen os h in
     let f = first-found (λ q. not (openUsed q)) zeroOpen os (s .0) (s .1) in
