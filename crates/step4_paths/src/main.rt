@@ -3,41 +3,38 @@
 //   e A B                   whether two names have equal units, exactly and folded
 //   p PATH, d PATH, f PATH  the path taken apart, with no option, with option 0x1 and with option 0x40
 // Any other line, and one over 1,024 bytes, is answered by `?`.
+use components::Part;
+use components::find_sign;
+use components::part_of;
+use components::units_before;
 use libc::STDIN_FILENO;
 use libc::STDOUT_FILENO;
-use paths::LeafParts;
 use paths::ParsedPath;
 ghost use mathlib.Core.Path.{_≡_};
 ghost use lib.ListN.{length};
-ghost use Rattle.io.specs.Counts.{Counts};
 
 const LINE_LIMIT: usize = 1024;
 
-// The place of a byte's first occurrence, or the end.
-fn find_byte(bytes: &[u8], byte: u8) -> usize
-    ensures { λ r. ⌜ Counts r (now (bytes .entry)) ⌝ }
-{
-    let mut i = 0;
-    while i < bytes.len() {
-        if bytes[i] == byte {
-            return i;
-        }
-        i += 1;
-    }
-    i
-}
+const LINE_END: u16 = 0x0A;
+
+const SPACE: u16 = 0x20;
 
 fn unit_of(byte: u8) -> u16 {
     byte as u16
 }
 
-// The bytes as units, zeros after the last.
-fn units_of(bytes: &[u8]) -> [u16; 1024]
-    ensures { λ r. ⌜ 1024 ≡ length r ⌝ }
+// The byte that a unit came from.
+fn byte_of(unit: u16) -> u8 {
+    (unit % 256) as u8
+}
+
+// The bytes as units.
+fn units_of(bytes: [u8; 65536]) -> [u16; 65536]
+    ensures { λ r. ⌜ 65536 ≡ length r ⌝ }
 {
-    let mut units = [0u16; 1024];
+    let mut units = [0u16; 65536];
     let mut i = 0;
-    while i < bytes.len() && i < LINE_LIMIT {
+    while i < 65536 {
         units[i] = unit_of(bytes[i]);
         i += 1;
     }
@@ -48,123 +45,105 @@ fn say(text: &[u8]) {
     io::write_all(STDOUT_FILENO, text);
 }
 
+fn say_byte(byte: u8) {
+    io::write_all(STDOUT_FILENO, &[byte]);
+}
+
 // The text where the test holds, else a dash.
 fn say_if(test: bool, text: &[u8]) {
     if test {
         say(text);
     } else {
-        say(b"-");
+        say_byte(b'-');
     }
 }
 
-// A unit as the byte it came from.
-fn byte_of(unit: u16) -> u8 {
-    if unit < 256 { unit as u8 } else { b'?' }
-}
-
-fn say_units(units: &[u16]) {
+// The units of a part, and a bar.
+fn say_part(path: &[u16], part: Part) {
+    let units = part_of(path, part);
     let mut i = 0;
     while i < units.len() {
-        say(&[byte_of(units[i])]);
+        say_byte(byte_of(units[i]));
         i += 1;
     }
+    say_byte(b'|');
 }
 
-fn answer_name(bytes: &[u8]) {
-    let units = units_of(bytes);
-    let name = components::units_before(&units, bytes.len());
+fn answer_name(name: &[u16]) {
     say_if(names::valid_file_name(name), b"file");
-    say(b" ");
+    say_byte(b' ');
     say_if(names::valid_stream_name(name), b"stream");
 }
 
-fn answer_equal(a: &[u8], b: &[u8]) {
-    let a_units = units_of(a);
-    let b_units = units_of(b);
-    let a_name = components::units_before(&a_units, a.len());
-    let b_name = components::units_before(&b_units, b.len());
-    say_if(units::equal_units(a_name, b_name, false), b"exact");
-    say(b" ");
-    say_if(units::equal_units(a_name, b_name, true), b"folded");
-}
-
 // Two names with one space between them, and no other space.
-fn answer_pair(bytes: &[u8]) {
-    let space = find_byte(bytes, b' ');
-    if space == bytes.len() {
-        say(b"?");
-        return;
+fn answer_pair(pair: &[u16]) {
+    let space = find_sign(pair, SPACE, 0);
+    if space < pair.len() {
+        let after = space + 1;
+        if find_sign(pair, SPACE, after) == pair.len() {
+            let a = units_before(pair, space);
+            let b = &pair[after..];
+            say_if(units::equal_units(a, b, false), b"exact");
+            say_byte(b' ');
+            say_if(units::equal_units(a, b, true), b"folded");
+            return;
+        }
     }
-    let after = space + 1;
-    let b = &bytes[after..];
-    if find_byte(b, b' ') < b.len() {
-        say(b"?");
-        return;
-    }
-    answer_equal(&bytes[..space], b);
+    say_byte(b'?');
 }
 
-fn say_leaf(path: &[u16], leaf: LeafParts) {
-    let file = leaf.file;
-    let stream = leaf.stream;
-    say_units(components::part_of(path, file));
-    say(b"|");
-    say_units(components::part_of(path, stream));
-    say(b"|");
-    if leaf.colon {
-        say(b":");
-    }
-}
-
-fn answer_path(bytes: &[u8], wants_directory: bool, wants_file: bool) {
-    let units = units_of(bytes);
-    let path = components::units_before(&units, bytes.len());
+// The path's file name and stream name, each with a bar after it, then its colon.
+fn answer_path(path: &[u16], wants_directory: bool, wants_file: bool) {
     let parsed = paths::parse_path(path, wants_directory, wants_file);
     match parsed {
         ParsedPath::Invalid => say(b"C0000033"),
         ParsedPath::Root => say(b"root"),
-        ParsedPath::Named(leaf) => say_leaf(path, leaf),
+        ParsedPath::Named(leaf) => {
+            let file = leaf.file;
+            let stream = leaf.stream;
+            say_part(path, file);
+            say_part(path, stream);
+            if leaf.colon {
+                say_byte(b':');
+            }
+        }
     }
 }
 
-// What stands after a line's letter and its space.
-fn answer_kind(kind: u8, bytes: &[u8]) {
+// A line's letter, or 0 where a space does not follow it or the line is too long.
+fn kind_of(line: &[u16]) -> u8 {
+    if line.len() < 2 || LINE_LIMIT < line.len() || line[1] != SPACE {
+        return 0;
+    }
+    byte_of(line[0])
+}
+
+fn answer_line(line: &[u16]) {
+    let end = line.len();
+    let text = part_of(line, Part { start: 2, end });
+    let kind = kind_of(line);
     match kind {
-        b'n' => answer_name(bytes),
-        b'e' => answer_pair(bytes),
-        b'p' => answer_path(bytes, false, false),
-        b'd' => answer_path(bytes, true, false),
-        b'f' => answer_path(bytes, false, true),
-        _ => say(b"?"),
+        b'n' => answer_name(text),
+        b'e' => answer_pair(text),
+        b'p' | b'd' | b'f' => answer_path(text, kind == b'd', kind == b'f'),
+        _ => say_byte(b'?'),
     }
-}
-
-fn answer_line(line: &[u8]) {
-    if line.len() < 2 || LINE_LIMIT < line.len() {
-        say(b"?\n");
-        return;
-    }
-    if line[1] != b' ' {
-        say(b"?\n");
-        return;
-    }
-    answer_kind(line[0], &line[2..]);
-    say(b"\n");
 }
 
 // The lines in order; the last one may lack its line end.
-fn answer_lines(input: &[u8]) {
+fn answer_lines(input: &[u16]) {
     let mut at = 0;
     while at < input.len() {
-        let rest = &input[at..];
-        let end = find_byte(rest, b'\n');
-        answer_line(&rest[..end]);
-        at += end + 1;
+        let end = find_sign(input, LINE_END, at);
+        answer_line(part_of(input, Part { start: at, end }));
+        say_byte(b'\n');
+        at = end + 1;
     }
 }
 
 fn main() {
     let mut input = io::large_buffer();
     let count = io::read_full(STDIN_FILENO, &mut input);
-    answer_lines(&input[..count]);
+    let units = units_of(input);
+    answer_lines(units_before(&units, count));
 }

@@ -1,13 +1,21 @@
--- `step4_paths::answer_lines` is safe and ends: each turn passes a line with its end. The loop's invariant: at is at most one past
--- the end.
-use Prim.Native.Nat.{_+_, _≤_, _-_}
-use lib.ListN.{length}
+-- `step4_paths::answer_lines` is safe and ends: each turn passes a line with its end.
+use Prim.Native.Nat.{ℕ, _≤_, _<_, _-_}
+use mathlib.Core.List.{List}
+use native.Mathlib.Omega.{arith}
+use lib.ListN.{length, drop, length-drop}
 use borrow.Author.Needs.{needs}
+use Rattle.components.specs.Positions.{noSign, placeOf}
+use Rattle.components.proofs.Leading.{leading-le}
 use Rattle.step4_paths.proofs.answer_lines.Statement.{statement}
 use Rattle.step4_paths.proofs.answer_lines.Tie as tie
 
+place-within : (sign : ℕ) (us : List ℕ) (at : ℕ) → at < length us → (at ≤ placeOf sign us at) × (placeOf sign us at ≤ length us)
+unfolding placeOf
+place-within sign us at below =
+    (omega arith, omega (arith, leading-le (noSign sign) (drop at us), length-drop at us))
+
 abbrev Inv-loop : tie.InvT-loop
-Inv-loop input at₀ at = at ≤ length input + 1
+Inv-loop input at₀ at = Unit {0}
 
 abbrev μ-loop : tie.MeasureT-loop
 μ-loop input at₀ at = length input - at
@@ -15,32 +23,29 @@ abbrev μ-loop : tie.MeasureT-loop
 loop-holds : tie.Need-loop-holds Inv-loop μ-loop
 loop-holds c = search needs
 
-sub-rest : tie.Need-sub-rest Inv-loop μ-loop
-sub-rest c = search needs
+find-sign-requires : tie.Need-find-sign-requires Inv-loop μ-loop
+find-sign-requires c κs = search needs
 
-part-rest-start : tie.Need-part-rest-start Inv-loop μ-loop
-part-rest-start c = search needs
-
-part-rest-end : tie.Need-part-rest-end Inv-loop μ-loop
-part-rest-end c = search needs
-
-find-byte-requires : tie.Need-find-byte-requires Inv-loop μ-loop
-find-byte-requires c κs = search needs
-
-slice-aggregate-answer-line : tie.Need-slice-aggregate-answer-line Inv-loop μ-loop
-slice-aggregate-answer-line c = search needs
+part-of-requires : tie.Need-part-of-requires Inv-loop μ-loop
+part-of-requires c κs = search needs
 
 answer-line-requires : tie.Need-answer-line-requires Inv-loop μ-loop
 answer-line-requires c κs = search needs
 
-add-at : tie.Need-add-at Inv-loop μ-loop
-add-at c = search needs
+say-byte-requires : tie.Need-say-byte-requires Inv-loop μ-loop
+say-byte-requires c κs = search needs
 
-add-at-2 : tie.Need-add-at-2 Inv-loop μ-loop
-add-at-2 c = search needs
+add-at : tie.Need-add-at Inv-loop μ-loop
+add-at c =
+    let f = c .before .before .before in
+    let l = f .before .before in
+    omega (arith, f .find-sign .ensures, place-within 10 (l .before .before .args .input .now) (l .loop .at) (f .before .loop-test .taken))
 
 loop-less : tie.Need-loop-less Inv-loop μ-loop
-loop-less c = search needs
+loop-less c =
+    let f = c .before .before .before in
+    let l = f .before .before in
+    omega (arith, f .find-sign .ensures, place-within 10 (l .before .before .args .input .now) (l .loop .at) (f .before .loop-test .taken))
 
 loop-again : tie.Need-loop-again Inv-loop μ-loop
 loop-again c = search needs
@@ -55,14 +60,11 @@ answer-lines-spec =
     Inv-loop
     μ-loop
     loop-holds
-    sub-rest
-    part-rest-start
-    part-rest-end
-    find-byte-requires
-    slice-aggregate-answer-line
+    find-sign-requires
+    part-of-requires
     answer-line-requires
+    say-byte-requires
     add-at
-    add-at-2
     loop-less
     loop-again
     returns)

@@ -1,22 +1,22 @@
--- `step4_paths::units_of` answers 1,024 units. The loop's invariant: the array is as long as it began.
-use Prim.Native.Nat.{_-_}
+-- `step4_paths::units_of` answers 65,536 units. The loop's invariant: the array is as long as it began.
+use Prim.Native.Nat.{ℕ, _-_}
 use mathlib.Core.Path.{_≡_}
-use lib.ListN.{length}
+use lib.ListN.{length, length-replicate}
 use borrow.Author.Needs.{needs}
 use Rattle.step4_paths.proofs.units_of.Statement.{statement}
 use Rattle.step4_paths.proofs.units_of.Tie as tie
 
 abbrev Inv-loop : tie.InvT-loop
-Inv-loop bytes units₀ i₀ units i = length units ≡ 1024
+Inv-loop bytes units₀ i₀ units i = length units ≡ 65536
 
 abbrev μ-loop : tie.MeasureT-loop
-μ-loop bytes units₀ i₀ units i = length bytes - i
+μ-loop bytes units₀ i₀ units i = 65536 - i
 
 loop-holds : tie.Need-loop-holds Inv-loop μ-loop
-loop-holds c = search needs
+loop-holds c = length-replicate {A = ℕ} 65536 0
 
-shared-slice-read-unit-of : tie.Need-shared-slice-read-unit-of Inv-loop μ-loop
-shared-slice-read-unit-of c = search needs
+array-read-unit-of : tie.Need-array-read-unit-of Inv-loop μ-loop
+array-read-unit-of c = search needs
 
 unit-of-requires : tie.Need-unit-of-requires Inv-loop μ-loop
 unit-of-requires c κs = search needs
@@ -39,9 +39,6 @@ loop-again c = search needs
 returns : tie.Need-returns Inv-loop μ-loop
 returns c = search needs
 
-returns-2 : tie.Need-returns-2 Inv-loop μ-loop
-returns-2 c = search needs
-
 pub units-of-spec : {M : Type 1} → statement M
 units-of-spec =
     tie.close
@@ -49,12 +46,11 @@ units-of-spec =
     Inv-loop
     μ-loop
     loop-holds
-    shared-slice-read-unit-of
+    array-read-unit-of
     unit-of-requires
     mul-units
     array-write-units
     add-i
     loop-less
     loop-again
-    returns
-    returns-2)
+    returns)

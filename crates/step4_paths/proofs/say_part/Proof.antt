@@ -1,15 +1,18 @@
--- `step4_paths::say_units` is safe and ends. The loop's invariant: i is at most the length.
+-- `step4_paths::say_part` is safe and ends. The loop's invariant: i is at most the length.
 use Prim.Native.Nat.{_≤_, _-_}
 use lib.ListN.{length}
 use borrow.Author.Needs.{needs}
-use Rattle.step4_paths.proofs.say_units.Statement.{statement}
-use Rattle.step4_paths.proofs.say_units.Tie as tie
+use Rattle.step4_paths.proofs.say_part.Statement.{statement}
+use Rattle.step4_paths.proofs.say_part.Tie as tie
 
 abbrev Inv-loop : tie.InvT-loop
-Inv-loop units i₀ i = i ≤ length units
+Inv-loop path units i₀ i = i ≤ length units
 
 abbrev μ-loop : tie.MeasureT-loop
-μ-loop units i₀ i = length units - i
+μ-loop path units i₀ i = length units - i
+
+part-of-requires : tie.Need-part-of-requires Inv-loop μ-loop
+part-of-requires c κs = search needs
 
 loop-holds : tie.Need-loop-holds Inv-loop μ-loop
 loop-holds c = search needs
@@ -23,11 +26,8 @@ shared-slice-read-byte-of c = search needs
 byte-of-requires : tie.Need-byte-of-requires Inv-loop μ-loop
 byte-of-requires c κs = search needs
 
-slice-aggregate-say : tie.Need-slice-aggregate-say Inv-loop μ-loop
-slice-aggregate-say c = search needs
-
-say-requires : tie.Need-say-requires Inv-loop μ-loop
-say-requires c κs = search needs
+say-byte-requires : tie.Need-say-byte-requires Inv-loop μ-loop
+say-byte-requires c κs = search needs
 
 add-i : tie.Need-add-i Inv-loop μ-loop
 add-i c = search needs
@@ -38,22 +38,26 @@ loop-less c = search needs
 loop-again : tie.Need-loop-again Inv-loop μ-loop
 loop-again c = search needs
 
+say-byte-requires-2 : tie.Need-say-byte-requires-2 Inv-loop μ-loop
+say-byte-requires-2 c κs = search needs
+
 returns : tie.Need-returns Inv-loop μ-loop
 returns c = search needs
 
-pub say-units-spec : {M : Type 1} → statement M
-say-units-spec =
+pub say-part-spec : {M : Type 1} → statement M
+say-part-spec =
     tie.close
     (tie.spec
     Inv-loop
     μ-loop
+    part-of-requires
     loop-holds
     mul-byte-of
     shared-slice-read-byte-of
     byte-of-requires
-    slice-aggregate-say
-    say-requires
+    say-byte-requires
     add-i
     loop-less
     loop-again
+    say-byte-requires-2
     returns)
