@@ -1,5 +1,6 @@
 // Fresh tables, and tables with one record changed.
 use crate::line::Line;
+use crate::line::start;
 use libc::STDOUT_FILENO;
 use records::Answer;
 use records::File;
@@ -14,27 +15,6 @@ use records::Stream;
 use records::StreamNo;
 use records::Volume;
 use records::constants::ALL_ACCESS;
-use records::slots::ZERO_FILE;
-use records::slots::ZERO_LINK;
-use records::slots::ZERO_OPEN;
-use records::slots::ZERO_STREAM;
-
-// Formatted tables, writable, with all access for every account. Format doesn't look at the tables that it is given.
-pub fn fresh() -> Answer {
-    let files = [ZERO_FILE; 128];
-    let links = [ZERO_LINK; 192];
-    let streams = [ZERO_STREAM; 256];
-    let rows = [ZERO_OPEN; 256];
-    let volume = Volume {
-        read_only: false,
-        next_handle: Handle(0),
-        files,
-        links,
-        streams,
-    };
-    let masks = [ALL_ACCESS; 8];
-    format::format(volume, OpenTable { rows }, masks, false)
-}
 
 fn low(number: u32) -> u16 {
     (number % 65536) as u16
@@ -108,83 +88,72 @@ fn open_of(line: Line) -> Open {
     }
 }
 
+// The table that a change has come to the end of, told by the last letter of its word. Where no table has this letter or the
+// slot is past its end, that is answered here, and there is none.
+pub fn table_of(line: Line) -> u8 {
+    let label = line.label;
+    let slot = line.value;
+    let known = match label {
+        b'e' => slot < 128,
+        b'k' => slot < 192,
+        b'm' | b'n' => slot < 256,
+        _ => label == b't',
+    };
+    if known {
+        return label;
+    }
+    unknown();
+    0
+}
+
+// The volume after the change of a table. The slot is in the table, so the remainders leave it as it is.
+pub fn changed_volume(v: Volume, line: Line, table: u8) -> Volume {
+    let mut after = v;
+    let slot = line.value as usize;
+    match table {
+        b'e' => after.files[slot % 128] = file_of(line),
+        b'k' => after.links[slot % 192] = link_of(line),
+        b'm' => after.streams[slot % 256] = stream_of(line),
+        b't' => after.next_handle.0 = line.value as u64,
+        _ => {}
+    }
+    after
+}
+
+// The opens after it.
+pub fn changed_opens(t: OpenTable, line: Line, table: u8) -> OpenTable {
+    let mut after = t;
+    let slot = line.value as usize;
+    if table == b'n' {
+        after.rows[slot % 256] = open_of(line);
+    }
+    after
+}
+
 // The answer to what is not understood.
 pub fn unknown() {
     io::write_all(STDOUT_FILENO, b" ?");
 }
 
-// Tables with a record in a slot.
-fn put_file(v: Volume, slot: u32, f: File) -> Volume {
-    let mut after = v;
-    let i = slot as usize;
-    if i < 128 {
-        after.files[i] = f;
-    } else {
-        unknown();
-    }
-    after
-}
-
-fn put_link(v: Volume, slot: u32, l: Link) -> Volume {
-    let mut after = v;
-    let i = slot as usize;
-    if i < 192 {
-        after.links[i] = l;
-    } else {
-        unknown();
-    }
-    after
-}
-
-fn put_stream(v: Volume, slot: u32, s: Stream) -> Volume {
-    let mut after = v;
-    let i = slot as usize;
-    if i < 256 {
-        after.streams[i] = s;
-    } else {
-        unknown();
-    }
-    after
-}
-
-fn put_open(t: OpenTable, slot: u32, o: Open) -> OpenTable {
-    let mut after = t;
-    let i = slot as usize;
-    if i < 256 {
-        after.rows[i] = o;
-    } else {
-        unknown();
-    }
-    after
-}
-
-fn put_next(v: Volume, number: u32) -> Volume {
-    let mut after = v;
-    let next = number as u64;
-    after.next_handle.0 = next;
-    after
-}
-
-// The volume after the change that a line has come to the end of. Its table is told by the last letter of its word.
-pub fn changed_volume(v: Volume, line: Line) -> Volume {
-    let label = line.label;
-    match label {
-        b'e' => put_file(v, line.value, file_of(line)),
-        b'k' => put_link(v, line.value, link_of(line)),
-        b'm' => put_stream(v, line.value, stream_of(line)),
-        b't' => put_next(v, line.value),
-        b'n' => v,
-        _ => {
-            unknown();
-            v
-        }
+// A volume of one line's records.
+fn volume_of(line: Line) -> Volume {
+    let files = [file_of(line); 128];
+    let links = [link_of(line); 192];
+    let streams = [stream_of(line); 256];
+    Volume {
+        read_only: false,
+        next_handle: Handle(0),
+        files,
+        links,
+        streams,
     }
 }
 
-// The opens after it.
-pub fn changed_opens(t: OpenTable, line: Line) -> OpenTable {
-    if line.label == b'n' {
-        return put_open(t, line.value, open_of(line));
-    }
-    t
+// Formatted tables, writable, with all access for every account. Format doesn't look at the tables that it is given:
+// here they have the records of an empty line.
+pub fn fresh() -> Answer {
+    let line = start(0);
+    let rows = [open_of(line); 256];
+    let masks = [ALL_ACCESS; 8];
+    format::format(volume_of(line), OpenTable { rows }, masks, false)
 }

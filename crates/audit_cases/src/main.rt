@@ -24,39 +24,25 @@ mod line;
 use crate::changes::changed_opens;
 use crate::changes::changed_volume;
 use crate::changes::fresh;
+use crate::changes::table_of;
 use crate::changes::unknown;
 use crate::line::next;
 use crate::line::start;
 use libc::STDIN_FILENO;
 use libc::STDOUT_FILENO;
-use records::Answer;
 use records::OpenTable;
-use records::Outcome;
 use records::Volume;
 
-fn say(sound: bool) {
-    if sound {
+// What the audit says at the end of a case.
+fn answer(volume: Volume, opens: OpenTable, kind: u8) {
+    if kind == 0 {
+        unknown();
+    }
+    if audit::audit(volume, opens) {
         io::write_all(STDOUT_FILENO, b" yes\n");
     } else {
         io::write_all(STDOUT_FILENO, b" no\n");
     }
-}
-
-// Ends a line that has led from the good tables to others, and answers the good tables from here on.
-fn answered(good: Answer, volume: Volume, opens: OpenTable, kind: u8) -> Answer {
-    if kind == b'+' {
-        return Answer {
-            outcome: Outcome::Done,
-            granted: 0,
-            volume,
-            opens,
-        };
-    }
-    if kind == 0 {
-        unknown();
-    }
-    say(audit::audit(volume, opens));
-    good
 }
 
 // The lines, byte by byte.
@@ -70,14 +56,20 @@ fn run(input: &[u8]) {
         let byte = input[i];
         match byte {
             b';' => {
-                volume = changed_volume(volume, line);
-                opens = changed_opens(opens, line);
+                let table = table_of(line);
+                volume = changed_volume(volume, line, table);
+                opens = changed_opens(opens, line, table);
                 line = start(line.kind);
             }
             b'\n' => {
-                good = answered(good, volume, opens, line.kind);
-                volume = good.volume;
-                opens = good.opens;
+                if line.kind == b'+' {
+                    good.volume = volume;
+                    good.opens = opens;
+                } else {
+                    answer(volume, opens, line.kind);
+                    volume = good.volume;
+                    opens = good.opens;
+                }
                 line = start(0);
             }
             _ => line = next(line, byte),

@@ -23,6 +23,9 @@ loop-holds c = search needs
 shared-slice-read-byte : tie.Need-shared-slice-read-byte Inv-loop μ-loop
 shared-slice-read-byte c = search needs
 
+table-of-requires : tie.Need-table-of-requires Inv-loop μ-loop
+table-of-requires c κs = search needs
+
 changed-volume-requires : tie.Need-changed-volume-requires Inv-loop μ-loop
 changed-volume-requires c κs = search needs
 
@@ -32,8 +35,8 @@ changed-opens-requires c κs = search needs
 start-requires-2 : tie.Need-start-requires-2 Inv-loop μ-loop
 start-requires-2 c κs = search needs
 
-answered-requires : tie.Need-answered-requires Inv-loop μ-loop
-answered-requires c κs = search needs
+answer-requires : tie.Need-answer-requires Inv-loop μ-loop
+answer-requires c κs = search needs
 
 start-requires-3 : tie.Need-start-requires-3 Inv-loop μ-loop
 start-requires-3 c κs = search needs
@@ -63,10 +66,11 @@ run-spec =
     start-requires
     loop-holds
     shared-slice-read-byte
+    table-of-requires
     changed-volume-requires
     changed-opens-requires
     start-requires-2
-    answered-requires
+    answer-requires
     start-requires-3
     next-requires
     add-i
