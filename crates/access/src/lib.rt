@@ -1,11 +1,11 @@
 // The access rule: what an account may do with a file.
 use records::File;
+use records::FileType;
 use records::constants::MAXIMUM_ALLOWED;
 use records::constants::READ_ONLY;
 use records::sizes::ACCOUNTS;
-use records::slots::is_data;
 ghost use mathlib.Core.Path.{_≡_};
-ghost use Rattle.records.specs.Slots.{maskOf};
+ghost use Rattle.records.specs.Slots.{isData, maskOf};
 ghost use Rattle.access.specs.Access.{effective, need, accessFrom, accessRule};
 
 // What a read-only data file withholds: to write and to append data.
@@ -15,6 +15,15 @@ const WRITES: u32 = 0x6;
 pub enum Access {
     Granted(u32),
     Denied,
+}
+
+fn is_data(t: FileType) -> bool
+    ensures { λ r. ⌜ r ≡ isData t ⌝ }
+{
+    match t {
+        FileType::Data => true,
+        FileType::Unused | FileType::Directory => false,
+    }
 }
 
 // The account's access mask on a file; an account past the last has none.

@@ -12,7 +12,7 @@ use crate::sizes::ACCOUNTS;
 use crate::sizes::FILE_NAME_LIMIT;
 use crate::sizes::STREAM_NAME_LIMIT;
 ghost use mathlib.Core.Path.{_≡_};
-ghost use Rattle.records.specs.Slots.{isUsed, isDirectory, isData, fileUsed, linkUsed, streamUsed, openUsed};
+ghost use Rattle.records.specs.Slots.{isUsed, isDirectory, fileUsed, linkUsed, streamUsed, openUsed};
 
 pub const ZERO_FILE: File = File {
     file_type: FileType::Unused,
@@ -66,15 +66,6 @@ pub fn is_directory(t: FileType) -> bool
     match t {
         FileType::Directory => true,
         FileType::Unused | FileType::Data => false,
-    }
-}
-
-pub fn is_data(t: FileType) -> bool
-    ensures { λ r. ⌜ r ≡ isData t ⌝ }
-{
-    match t {
-        FileType::Data => true,
-        FileType::Unused | FileType::Directory => false,
     }
 }
 

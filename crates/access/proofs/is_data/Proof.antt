@@ -1,4 +1,4 @@
--- `records::slots::is_data` meets its contract, by the three cases.
+-- `access::is_data` meets its contract, by the three cases.
 use mathlib.Core.Path.{_≡_, refl}
 use mathlib.Core.Bool.{false}
 use mathlib.Core.List.{[], _∷_}
@@ -7,12 +7,12 @@ use native.Mathlib.Omega.{arith}
 use types.Run.{OneOf}
 use denote.Enum.Declared.{tagOf}
 use borrow.Author.Needs.{needs}
 use Rattle.records.specs.Slots.{isData}
 use Rattle.records.specs.declared.FileType.{FileType}
 use Rattle.records.specs.declared.FileType.the-variants.{Unused, Data, Directory}
 use Rattle.records.proofs.FileType as FileTypeT
-use Rattle.records.proofs.slots.is_data.Statement.{statement}
-use Rattle.records.proofs.slots.is_data.Tie as tie
+use Rattle.access.proofs.is_data.Statement.{statement}
+use Rattle.access.proofs.is_data.Tie as tie
 
 -- the arm of two types
 rest : (t : FileType) → OneOf (0 ∷ 2 ∷ []) (tagOf FileTypeT.the-type t) → false ≡ isData t
