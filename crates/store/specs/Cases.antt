@@ -227,8 +227,8 @@ furtherCases =
     ∷ record {
       masks = fullMasks;
       before = makesA ∷ closesHandle 1 ∷ [];
-      calls = asks 1 3 1 0 a ∷ closesHandle 2 ∷ asks 1 3 1 0 a ∷ closesHandle 1 ∷ closesHandle 0 ∷ [];
-      replies = acceptedAs 1 2 1 ∷ done ∷ acceptedAs 1 3 1 ∷ refusedWith 0xC0000008 ∷ refusedWith 0xC0000008 ∷ [];
+      calls = asks 1 3 1 0 a ∷ closesHandle 1 ∷ closesHandle 0 ∷ [];
+      replies = acceptedAs 1 2 1 ∷ refusedWith 0xC0000008 ∷ refusedWith 0xC0000008 ∷ [];
       attributes = 0x10 ∷ 0x20 ∷ [];
       counts = none7 ∷ (1 ∷ 1 ∷ 0 ∷ 0 ∷ 1 ∷ 1 ∷ 0 ∷ []) ∷ [];
     }
