@@ -18,6 +18,7 @@ use Rattle.records.specs.declared.File.{File}
 use Rattle.records.specs.declared.Link.{Link}
 use Rattle.records.specs.declared.Stream.{Stream}
 use Rattle.records.specs.declared.ShareCounts.{ShareCounts}
+use Rattle.units.specs.Units.{dataType}
 use Rattle.store.specs.Complete.{Decision, decide}
 use Rattle.store.specs.Model.{Model, Reply}
 use Rattle.store.specs.Calls.{Call, opens, closes, setsReadOnly, Tables, Run, run, storeStep, modelStep}
@@ -253,8 +254,18 @@ masked mask before call status = record { mask = mask; before = before; call = c
 abbrev pub after : List Call → Call → ℕ → StepCase
 after before call status = masked allAccess before call status
 
+-- `:`, `\`, `a:log\` and `a::$DATA`
 abbrev pub colonPath : List ℕ
 colonPath = 0x3A ∷ []
+
+abbrev pub separator : List ℕ
+separator = 0x5C ∷ []
+
+abbrev pub endedStream : List ℕ
+endedStream = a:log ++ separator
+
+abbrev pub defaultStream : List ℕ
+defaultStream = 0x61 ∷ 0x3A ∷ 0x3A ∷ dataType
 
 -- `a` as a directory
 abbrev pub makesDirectory : Call
@@ -268,6 +279,9 @@ stepCases =
     -- 2 before 3, and 3
     after [] (asks 0 0 1 0x41 a) 0xC0000022
     ∷ after [] (asks 1 0 1 0x41 a) 0xC000000D
+    -- 4: a trailing backslash with 0x40, for the root too; without it the last component is the last that is not empty
+    ∷ after [] (asks 1 0 1 0x40 separator) 0xC0000033
+    ∷ after (makesA ∷ []) (asks 1 3 1 0 endedStream) 0xC0000034
     -- 4 before 5, and 5
     ∷ after (marksReadOnly ∷ []) (asks 1 0 2 0 colonPath) 0xC0000033
     ∷ after (marksReadOnly ∷ []) (asks 1 0 2 0 a) 0xC00000A2
@@ -277,10 +291,11 @@ stepCases =
     -- 7: the name is missed before the read-only mark
     ∷ after (marksReadOnly ∷ []) (asks 1 0 1 0 a) 0xC0000034
     ∷ after (marksReadOnly ∷ []) (asks 1 0 3 0 a) 0xC00000A2
-    -- 8: option 0x40 and a colon on a directory, option 0x1 on a data file
+    -- 8: option 0x40 and a colon, with a stream name or without, on a directory; option 0x1 on a data file
     ∷ after [] (asks 1 0 1 0x40 []) 0xC00000BA
     ∷ after [] (asks 1 0 2 0x40 []) 0xC0000035
     ∷ after (makesDirectory ∷ []) (asks 1 7 1 0 a:log) 0xC00000BA
+    ∷ after (makesDirectory ∷ []) (asks 1 7 1 0 defaultStream) 0xC00000BA
     ∷ after (makesA ∷ []) (asks 1 3 1 1 a) 0xC0000103
     -- 9: a temporary directory; a parent whose mask lacks 0x2
     ∷ after [] (asksWith 0x100 1 0 2 1 a) 0xC000000D
@@ -294,6 +309,12 @@ stepCases =
     ∷ after (asksWith 2 0x80 7 2 0 a ∷ []) (asks 1 7 4 0 a) 0xC0000022
     ∷ after (makesA ∷ []) (asks 1 3 4 0 a:log) 0xC0000034
     ∷ after (makesA ∷ marksReadOnly ∷ []) (asks 1 3 3 0 a:log) 0xC00000A2
+    -- access: 0x02000000 beside a bit that the mask lacks, and alone on an empty mask; a read-only file, for what
+    -- overwriting gains and for what superseding gains
+    ∷ masked 0x1 [] (asks 0x02000002 1 1 0 []) 0xC0000022
+    ∷ masked 0 [] (asks 0x02000000 1 1 0 []) 0xC0000022
+    ∷ after (asksWith 1 0x80 7 2 0 a ∷ []) (asks 1 7 4 0 a) 0xC0000022
+    ∷ after (asksWith 1 0x80 7 2 0 a ∷ []) (asks 1 7 0 0 a) 0
     ∷ []
 
 abbrev pub StepsHold : Type 0
