@@ -1,5 +1,7 @@
-// The audit of the links of each file: how many there are, and that the parents lead to the root. The links are passed
-// once for the counts and once for the parents, from the last to the first, as the definitions go through them.
+// The audit of the links table whole: its slots (`audit_links`), then the links of each file, how many there are and that
+// the parents lead to the root. The links are passed once for the counts and once for the parents, from the last to the
+// first, as the definitions go through them.
+use audit_links::link_slots_consistent;
 use records::Volume;
 use records::slots::file_used;
 use records::slots::link_used;
@@ -14,7 +16,7 @@ ghost use Rattle.records.specs.Slots.{linkUsed};
 ghost use Rattle.records.specs.declared.FileNo.{FileNo};
 ghost use Rattle.records.specs.declared.Link.{Link};
 ghost use Rattle.consistency.specs.Relations.{linkTo, parentOf, reaches};
-ghost use Rattle.consistency.specs.Test.{linkTest, linksOfFile};
+ghost use Rattle.consistency.specs.Test.{linkTest, linksOfFile, linksTest};
 
 // How many used links name each file.
 fn link_counts(v: Volume) -> [u16; 128]
@@ -96,7 +98,7 @@ fn links_wanted(n: usize) -> u16
 
 // Each used file but the root has one link, the root none, and the parents lead to the root. Each link was found to be
 // consistent by itself, so that no parent is past the table's end.
-pub fn files_linked(v: Volume) -> bool
+fn files_linked(v: Volume) -> bool
     ensures { λ r.
         ⌜ (all (linkTest (v .files)) (v .links) ≡ true
         → r ≡ allFrom (linksOfFile (keep linkUsed (v .links))) 0 (v .files)) ⌝ }
@@ -117,4 +119,14 @@ pub fn files_linked(v: Volume) -> bool
         i += 1;
     }
     true
+}
+
+// The links table: its slots, then the links and the parents of each file.
+pub fn links_consistent(v: Volume) -> bool
+    ensures { λ r. ⌜ r ≡ linksTest (v .files) (v .links) ⌝ }
+{
+    if !link_slots_consistent(v) {
+        return false;
+    }
+    files_linked(v)
 }

@@ -1,4 +1,4 @@
--- `audit::links_consistent` meets its contract: the slots, then the files, are the parts of the test.
+-- `audit_parents::links_consistent` meets its contract: the slots, then the files, are the parts of the test.
 use mathlib.Core.Path.{sym, _∙_}
 use lib.ListN.{length}
 use borrow.Author.Needs.{needs}
@@ -6,8 +6,8 @@ use borrow.Author.Tests.{eq-eqb, not-true, not-false}
 use Rattle.lists.proofs.Tests.{and-left}
 use Rattle.records.proofs.Lengths.{links-length}
 use Rattle.consistency.specs.Test.{linksTest}
-use Rattle.audit.proofs.links_consistent.Statement.{statement}
-use Rattle.audit.proofs.links_consistent.Tie as tie
+use Rattle.audit_parents.proofs.links_consistent.Statement.{statement}
+use Rattle.audit_parents.proofs.links_consistent.Tie as tie
 
 link-slots-consistent-requires : tie.Need-link-slots-consistent-requires
 link-slots-consistent-requires c κs = search needs
