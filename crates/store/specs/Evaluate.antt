@@ -7,6 +7,7 @@ use Rattle.lists.specs.Lists.{all, allFrom, any, count, keep, pairs, firstFrom,
 use Rattle.records.specs.Numbers.{statusNumber, actionNumber, outcomeNumbers}
 use Rattle.records.specs.Slots.{isUsed, isDirectory, isData, fileUsed, linkUsed, streamUsed, openUsed, maskOf}
 use Rattle.tables.specs.Tables.{fileAt, linkAt, streamAt}
+use Rattle.open_table.specs.Rows.{anyOnFile}
 use Rattle.records.specs.Namespace.{bareUsed, bareAt, bare, withCounts, namespace}
 use Rattle.records.specs.Checked.{_>>=_, _>>_, refuseIf}
 use Rattle.units.specs.Units.{upper, folded, equalUnits}
@@ -24,7 +25,7 @@ use Rattle.format.specs.Format.{freshOpens, rightLengths, rootFile, freshVolume
 use Rattle.store.specs.Request.{wantsDirectory, wantsFile, badParameters, badAccess, wantsBoth, writesVolume}
 use Rattle.store.specs.Prepare.{opening, grant, grantedNew, newType, attributesNew, fileNew, prepareNew, wrongType, readSharingOf, streamOr, prepareDirectory, prepareOpen, hiddenOrSystem, gained, replacing, replacement, prepareReplace, prepareStream, prepareData, prepareFound, streamName, hasColon, prepareAt, prepare}
 use Rattle.store.specs.Complete.{changed, decided, shareOf, slotOr, freeFile as freeFile′, freeLink as freeLink′, freeStream as freeStream′, withAttributes, streamNew, placeFile, placeStreams, place, nextHandle, attributeChange, complete, decide}
-use Rattle.store.specs.Store.{refusal, whenConsistent, anyOnFile, storeView, freshStream, changedVolume, recount, rowsWithOpenAt, rowsWithOpen, volumeWithOpen, openConcluded, openAnswer, hasHandle, volumeWithoutOpen, closeConcluded, closeAnswer, volumeMarked, setReadOnlyAnswer, audit}
+use Rattle.store.specs.Store.{refusal, whenConsistent, storeView, freshStream, changedVolume, recount, rowsWithOpenAt, rowsWithOpen, volumeWithOpen, openConcluded, openAnswer, hasHandle, volumeWithoutOpen, closeConcluded, closeAnswer, volumeMarked, setReadOnlyAnswer, audit}
 use Rattle.store.specs.Model.{Model, modelRefusal, modelFormatted, modelFormat, modelView, modelOpened, modelOpen, modelClose, modelSetReadOnly}
 use Rattle.store.specs.Calls.{Call, Tables, Run, answered, storeStep, modelStep, run}
 

@@ -16,10 +16,11 @@ use Rattle.records.specs.declared.Outcome.the-variants.{Success, Done, Refused}
 use Rattle.records.specs.declared.Handle.{Handle}
 use Rattle.records.specs.declared.Open.{Open}
 use Rattle.records.specs.declared.Request.{Request}
+use Rattle.open_table.specs.Rows.{anyOnFile}
 use Rattle.sharing.specs.Sharing.{anyConflict}
 use Rattle.format.specs.Format.{freshVolume, checkedMasks}
 use Rattle.store.specs.Complete.{View, Decision, changed, decide}
-use Rattle.store.specs.Store.{anyOnFile, hasHandle}
+use Rattle.store.specs.Store.{hasHandle}
 
 pub record Model : Type 0 where
   pub names : Namespace

@@ -9,6 +9,7 @@ use lib.ListN.{getD, set}
 use Rattle.lists.specs.Lists.{any, first, firstFree, writes}
 use Rattle.records.specs.Slots.{zeroCounts, zeroOpen, openUsed}
 use Rattle.tables.specs.Tables.{streamAt}
+use Rattle.open_table.specs.Rows.{anyOnFile}
 use Rattle.records.specs.Namespace.{BareStream, bare, withCounts, namespace}
 use Rattle.records.specs.Checked.{Checked, refused, passed}
 use Rattle.records.specs.declared.Status.{Status}
@@ -35,10 +36,6 @@ refusal v t s = record { outcome = Refused s; granted = 0; volume = v; opens = t
 -- consistency comes first in open, close and set_read_only
 unfoldable pub whenConsistent : Volume → OpenTable → Answer → Answer
 whenConsistent v t answer = elim (consistent v t) [ true ↦ answer | false ↦ refusal v t FileCorruptError ]
-
--- some open of a list is on the file
-unfoldable pub anyOnFile : FileNo → List Open → Bool
-anyOnFile f os = any (λ o. eqb (o .file .0) (f .0)) os
 
 -- the tables' answers about the opens: conflicts by the share check
 unfoldable pub storeView : Volume → OpenTable → View

@@ -9,8 +9,9 @@ use lib.ListN.{drop}
 use borrow.Author.Needs.{needs}
 use Rattle.lists.specs.Lists.{any}
 use Rattle.lists.proofs.First.{any-here, any-next, any-none}
+use Rattle.lists.proofs.Keep.{any-keep}
 use Rattle.records.specs.Slots.{openUsed, zeroOpen}
-use Rattle.open_table.specs.Rows.{fileHasOpen}
+use Rattle.open_table.specs.Rows.{anyOnFile, fileHasOpen}
 use Rattle.records.specs.declared.FileNo.{FileNo}
 use Rattle.records.specs.declared.Open.{Open}
 use Rattle.records.proofs.Lengths.{rows-length}
@@ -27,8 +28,8 @@ abbrev μ-loop : tie.MeasureT-loop
 μ-loop f t i₀ i = 256 - i
 
 loop-holds : tie.Need-loop-holds Inv-loop μ-loop
-unfolding fileHasOpen
-loop-holds c = refl
+unfolding fileHasOpen anyOnFile
+loop-holds c = any-keep openUsed (λ o. eqb (o .file .0) (c .args .f .0)) (c .args .t1 .rows)
 
 mul-o : tie.Need-mul-o Inv-loop μ-loop
 mul-o c = search needs

@@ -29,7 +29,8 @@ use Rattle.consistency.specs.Consistent.{Consistent, CountsTrue}
 use Rattle.consistency.proofs.Derived.{stream-below}
 use Rattle.store.specs.Prepare.{Existing, Pending, existing, creating}
 use Rattle.store.specs.Complete.{View, Placed, Decision, decided, shareOf, place, nextHandle, attributeChange, complete}
-use Rattle.store.specs.Store.{anyOnFile, storeView}
+use Rattle.open_table.specs.Rows.{anyOnFile}
+use Rattle.store.specs.Store.{storeView}
 use Rattle.store.specs.Model.{Model, modelView}
 use Rattle.store.specs.Calls.{Tables}
 use Rattle.store.proofs.Sequences.Facts.{ExistingFits, PendingFits}

@@ -20,7 +20,6 @@ use Rattle.records.specs.declared.Open.{Open}
 use Rattle.sharing.specs.Sharing.{Kind, reading, writing, deleting, shareBit, anyKind, holds, shares, counted, conflict, onStream, anyConflict}
 use Rattle.consistency.specs.Relations.{live}
 use Rattle.consistency.specs.Consistent.{openAt, OpensConsistent}
-use Rattle.store.specs.Store.{anyOnFile}
 
 and-none : (a : Bool) {b c : Bool} → (b ≡ false → c ≡ false) → (a && b) ≡ false → (a && c) ≡ false
 and-none true i h = i h
