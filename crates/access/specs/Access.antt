@@ -5,7 +5,7 @@ use lib.Dec.{eqb}
 use Rattle.bits.specs.Bits.{within, has, without}
 use Rattle.records.specs.Constants.{readOnly, maximumAllowed}
 use Rattle.records.specs.Slots.{isData, maskOf}
-use Rattle.records.specs.Checked.{Checked, refused, passed}
+use Rattle.records.specs.Checked.{Checked, passed, refuse}
 use Rattle.records.specs.declared.Status.the-variants.{AccessDenied}
 use Rattle.records.specs.declared.File.{File}
 use Rattle.access.specs.declared.Access.{Access}
@@ -32,4 +32,4 @@ accessRule f account access = accessFrom (effective f account) access
 -- the rule as a step of an open
 unfoldable pub checkedAccess : Access → Checked ℕ
 checkedAccess (Granted g) = passed g
-checkedAccess Denied = refused AccessDenied
+checkedAccess Denied = refuse AccessDenied

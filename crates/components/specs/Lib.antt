@@ -1,2 +1,3 @@
 pub mod Components
 pub mod Positions
+pub mod Evaluate

@@ -1,3 +1,4 @@
 pub mod Relations
 pub mod Test
 pub mod Consistent
+pub mod Evaluate

@@ -8,15 +8,14 @@ use Rattle.lists.specs.Lists.{all}
 use Rattle.records.specs.Sizes.{fileSlots, linkSlots, streamSlots, openSlots, fileNameLimit, streamNameLimit, accounts}
 use Rattle.records.specs.Constants.{directory}
 use Rattle.records.specs.Slots.{root, zeroFile, zeroLink, zeroCounts, zeroStream, zeroOpen}
-use Rattle.records.specs.Checked.{Checked, refused, passed, _>>_, refuseIf}
+use Rattle.records.specs.Checked.{Checked, passed, _>>_, refuseIf}
+use Rattle.records.specs.State.{Tables, Step, done, concluded}
 use Rattle.records.specs.declared.Status.the-variants.{FileCorruptError, InvalidParameter}
 use Rattle.records.specs.declared.FileType.the-variants.{Directory}
-use Rattle.records.specs.declared.Outcome.the-variants.{Done, Refused}
 use Rattle.records.specs.declared.File.{File}
 use Rattle.records.specs.declared.Stream.{Stream}
 use Rattle.records.specs.declared.Volume.{Volume}
 use Rattle.records.specs.declared.OpenTable.{OpenTable}
-use Rattle.records.specs.declared.Answer.{Answer}
 use Rattle.consistency.specs.Relations.{validMasks}
 
 -- "lengths are as above": of the tables, and of the arrays in their records
@@ -51,15 +50,17 @@ freshVolume masks readOnly =
 abbrev pub freshOpens : OpenTable
 freshOpens = record { rows = replicate openSlots zeroOpen }
 
+-- fresh tables: all zero but file 0 and its stream
+unfoldable pub freshTables : List ℕ → Bool → Tables
+freshTables masks readOnly = record { volume = freshVolume masks readOnly; opens = freshOpens }
+
 -- what format refuses; the masks alone decide where there are no tables
 unfoldable pub checkedMasks : List ℕ → Checked (Unit {0})
 checkedMasks masks = refuseIf (not (validMasks masks)) InvalidParameter
 
-unfoldable pub formatAnswer : Volume → OpenTable → List ℕ → Bool → Checked (Unit {0}) → Answer
-formatAnswer v t masks readOnly (refused s) = record { outcome = Refused s; granted = 0; volume = v; opens = t }
-formatAnswer v t masks readOnly (passed ok) =
-    record { outcome = Done; granted = 0; volume = freshVolume masks readOnly; opens = freshOpens }
-
-unfoldable pub format : Volume → OpenTable → List ℕ → Bool → Answer
-format v t masks readOnly =
-    formatAnswer v t masks readOnly (refuseIf (not (rightLengths v t)) FileCorruptError >> checkedMasks masks)
+unfoldable pub format : Tables → List ℕ → Bool → Step Tables
+format t masks readOnly =
+    concluded t do
+      refuseIf (not (rightLengths (t .volume) (t .opens))) FileCorruptError
+      checkedMasks masks
+      passed (done (freshTables masks readOnly))

@@ -17,6 +17,7 @@ use records::slots::ZERO_LINK;
 use records::slots::ZERO_OPEN;
 use records::slots::ZERO_STREAM;
 ghost use mathlib.Core.Path.{_≡_};
+ghost use Rattle.records.specs.State.{Answers};
 ghost use Rattle.format.specs.Format as definitions;
 
 // File 0.
@@ -68,7 +69,7 @@ fn fresh_opens() -> OpenTable
 
 // Tables by value have the right lengths, so only the masks decide.
 pub fn format(v: Volume, t: OpenTable, masks: [u32; 8], read_only: bool) -> Answer
-    ensures { λ r. ⌜ r ≡ definitions.format v t masks «read_only» ⌝ }
+    ensures { λ r. ⌜ Answers r (definitions.format (record { volume = v; opens = t }) masks «read_only») ⌝ }
 {
     if !valid_masks(masks) {
         return Answer {

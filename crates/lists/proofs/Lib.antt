@@ -13,6 +13,7 @@ pub mod Default
 pub mod Counting
 pub mod Permutations
 pub mod PairsPerm
+pub mod FirstElement
 pub mod Pigeonhole
 pub mod Writes
 pub mod Sweeps

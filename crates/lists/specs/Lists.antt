@@ -42,6 +42,11 @@ module _ {A : Type 0} where
   firstFrom p [] at = none
   firstFrom p (x ∷ xs) at = elim (p x) [ true ↦ some at | false ↦ firstFrom p xs (suc at) ]
 
+  -- the first element that passes
+  unfoldable pub find : (A → Bool) → List A → Option A
+  find p [] = none
+  find p (x ∷ xs) = elim (p x) [ true ↦ some x | false ↦ find p xs ]
+
   unfoldable pub first : (A → Bool) → List A → Option ℕ
   first p xs = firstFrom p xs 0
 

@@ -2,17 +2,18 @@
 -- at one that does not.
 use Prim.Native.Nat.{ℕ, _≤_, _<_}
 use mathlib.Core.Path.{_≡_, refl, sym, ap, _∙_}
-use mathlib.Core.Bool.{Bool, false, cond}
+use mathlib.Core.Bool.{Bool, true, false, cond}
 use mathlib.Core.List.{List, [], _∷_}
 use mathlib.Core.Option.{Option, none, some}
 use native.Mathlib.Omega.{arith}
 use lib.ListN.{length, getD, drop, List·getD-eq-default}
+use Rattle.lists.specs.Lists.{isEmpty}
 use Rattle.lists.proofs.Default.{getD-default}
 use Rattle.records.specs.Sizes.{fileSlots, linkSlots}
 use Rattle.records.specs.Slots.{root, zeroFile, zeroLink, isDirectory}
 use Rattle.tables.specs.Tables.{fileAt, linkAt}
 use Rattle.records.specs.Namespace.{Namespace, namespace}
-use Rattle.records.specs.Checked.{Checked, refused, passed, _>>=_}
+use Rattle.records.specs.Checked.{Refusal, Checked, refused, passed, refuse, _>>=_}
 use Rattle.records.specs.declared.Status.{Status}
 use Rattle.records.specs.declared.Status.the-variants.{ObjectPathNotFound}
 use Rattle.records.specs.declared.FileNo.{FileNo}
@@ -24,7 +25,7 @@ use Rattle.components.specs.Components.{components}
 use Rattle.components.specs.Positions.{nextComponent, partOf}
 use Rattle.components.proofs.Places.{next-found, next-none}
 use Rattle.paths.specs.Paths.{Leaf}
-use Rattle.lookup.specs.Lookup.{findLink, stepInto, descend, Place, found, missing, placeOf, locateLeaf, locate}
+use Rattle.lookup.specs.Lookup.{findLink, stepInto, descend, Place, missing, foundRoot, foundBy, placeIn, locateLeaf, locate}
 use Rattle.lookup.specs.Answers.{lastStep, walkEnds, walkedFrom}
 use Rattle.lookup.specs.declared.walk.FoundFile.{FoundFile}
 use Rattle.lookup.specs.declared.walk.FoundFile.the-variants.{At, Missing}
@@ -40,13 +41,13 @@ foundFile ls (some l) = At (linkAt ls l .file)
 -- the definition's step from there
 
 module _ (ns : Namespace) where
-  pub step-lost : (o : Option LinkNo) → foundFile (ns .links) o ≡ Missing → stepInto ns o ≡ refused ObjectPathNotFound
+  pub step-lost : (o : Option LinkNo) → foundFile (ns .links) o ≡ Missing → stepInto ns o ≡ refuse ObjectPathNotFound
   unfolding foundFile stepInto
   step-lost none e = refl
   step-lost (some l) e = cc
 
   pub step-found : (o : Option LinkNo) (next : FileNo) {b : Bool} → foundFile (ns .links) o ≡ At next → isDirectory (fileAt (ns .files) next .«file_type») ≡ b
-      → stepInto ns o ≡ cond b (passed next) (refused ObjectPathNotFound)
+      → stepInto ns o ≡ cond b (passed next) (refuse ObjectPathNotFound)
   unfolding foundFile stepInto
   step-found none next e kind = cc
   step-found (some l) next e kind = let q : linkAt (ns .links) l .file ≡ next = cc in rw (q, kind)
@@ -77,7 +78,7 @@ module _ (ns : Namespace) (fold : Bool) (dir : FileNo) (name : List ℕ) where
   ends = refl
 
   module _ (component : List ℕ) (rest : List (List ℕ)) where
-    stops : (s : Status) → stepInto ns (findLink ns fold dir component) ≡ refused s → walkedFrom ns fold dir (component ∷ rest) name ≡ End.Refused s
+    stops : (s : Status) → stepInto ns (findLink ns fold dir component) ≡ refuse s → walkedFrom ns fold dir (component ∷ rest) name ≡ End.Refused s
     unfolding walkedFrom walkEnds descend _>>=_
     stops s e = rw (e, descend)
 
@@ -102,7 +103,7 @@ module _ (ns : Namespace) (fold : Bool) (dir : FileNo) (name parents : List ℕ)
     abbrev rest : List (List ℕ)
     rest = components (drop (nextComponent parents at .end) parents)
 
-    pub walk-stops : (s : Status) → stepInto ns (findLink ns fold dir component) ≡ refused s → walkLeft ≡ End.Refused s
+    pub walk-stops : (s : Status) → stepInto ns (findLink ns fold dir component) ≡ refuse s → walkLeft ≡ End.Refused s
     walk-stops s e = rw (next-found parents at more) (stops ns fold dir name component rest s e)
 
     pub walk-goes-on : (next : FileNo) → stepInto ns (findLink ns fold dir component) ≡ passed next → walkLeft ≡ walkedFrom ns fold next rest name
@@ -111,19 +112,36 @@ module _ (ns : Namespace) (fold : Bool) (dir : FileNo) (name parents : List ℕ)
 -- where the walk leads
 
 unfoldable pub placeFrom : Namespace → Leaf → Walked → Checked Place
-placeFrom ns leaf (End.Link l) = passed (found (linkAt (ns .links) l .file))
-placeFrom ns leaf (End.Missing dir) = passed (missing dir (leaf .file) (leaf .stream))
-placeFrom ns leaf (End.Refused s) = refused s
+placeFrom ns leaf (End.Link l) = passed (foundBy ns l)
+placeFrom ns leaf (End.Missing dir) = passed (missing dir leaf)
+placeFrom ns leaf (End.Refused s) = refuse s
 
-pub walk-leads : (ns : Namespace) (fold : Bool) (parents : List (List ℕ)) (leaf : Leaf)
-    → placeFrom ns leaf (walkedFrom ns fold root parents (leaf .file)) ≡ locate ns fold (record { parents = parents; leaf = some leaf })
-unfolding placeFrom walkedFrom walkEnds lastStep locate locateLeaf placeOf _>>=_
-walk-leads ns fold parents leaf = go (descend ns fold root parents)
-  where
-    step : (dir : FileNo) (o : Option LinkNo) → placeFrom ns leaf (lastStep dir o) ≡ passed (placeOf ns dir leaf o)
-    step dir none = refl
-    step dir (some l) = refl
+-- a name without units is none
+pub name-empty : (us : List ℕ) → length us ≡ 0 → isEmpty us ≡ true
+unfolding isEmpty
+name-empty [] e = refl
+name-empty (u ∷ us) e = absurd (let z : ⊥ = omega arith in z)
 
-    go : (d : Checked FileNo) → placeFrom ns leaf (walkEnds ns fold (leaf .file) d) ≡ (d >>= λ dir. passed (locateLeaf ns fold dir (some leaf)))
-    go (refused s) = refl
-    go (passed dir) = step dir (findLink ns fold dir (leaf .file))
+pub name-given : (us : List ℕ) → (length us ≡ 0 → ⊥) → isEmpty us ≡ false
+unfolding isEmpty
+name-given [] e = absurd (e refl)
+name-given (u ∷ us) e = refl
+
+module _ (ns : Namespace) (fold : Bool) (parents : List (List ℕ)) (leaf : Leaf) where
+  pub root-leads : isEmpty (leaf .file) ≡ true → passed foundRoot ≡ locate ns fold (record { parents = parents; leaf = leaf })
+  unfolding locate
+  root-leads e = rw (e, locate)
+
+  pub walk-leads : isEmpty (leaf .file) ≡ false
+      → placeFrom ns leaf (walkedFrom ns fold root parents (leaf .file)) ≡ locate ns fold (record { parents = parents; leaf = leaf })
+  unfolding placeFrom walkedFrom walkEnds lastStep locate locateLeaf placeIn _>>=_
+  walk-leads named = rw (named, locate) (go (descend ns fold root parents))
+    where
+      step : (dir : FileNo) (o : Option LinkNo) → placeFrom ns leaf (lastStep dir o) ≡ passed (placeIn ns dir leaf o)
+      step dir none = refl
+      step dir (some l) = refl
+
+      go : (d : Checked FileNo)
+          → placeFrom ns leaf (walkEnds ns fold (leaf .file) d) ≡ (d >>= λ dir. passed (locateLeaf ns fold dir leaf))
+      go (refused r) = refl
+      go (passed dir) = step dir (findLink ns fold dir (leaf .file))

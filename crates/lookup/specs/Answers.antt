@@ -4,16 +4,16 @@ use mathlib.Core.Bool.{Bool, false}
 use mathlib.Core.List.{List, []}
 use mathlib.Core.Option.{Option, none, some}
 use Rattle.records.specs.Namespace.{Namespace}
-use Rattle.records.specs.Checked.{Checked, refused, passed, _>>=_}
+use Rattle.records.specs.Checked.{Checked, refused, passed, refuse, _>>=_}
 use Rattle.records.specs.declared.FileNo.{FileNo}
 use Rattle.records.specs.declared.LinkNo.{LinkNo}
 use Rattle.components.specs.Positions.{parentsOf}
-use Rattle.paths.specs.Paths.{Path, Leaf}
+use Rattle.paths.specs.Paths.{Path, Leaf, noLeaf}
 use Rattle.paths.specs.Positions.{asLeaf, asPath}
 use Rattle.paths.specs.declared.LeafParts.{LeafParts}
 use Rattle.paths.specs.declared.ParsedPath.{ParsedPath}
 use Rattle.paths.specs.declared.ParsedPath.the-variants.{Invalid, Root, Named}
-use Rattle.lookup.specs.Lookup.{findLink, descend, Place, found, missing, locate}
+use Rattle.lookup.specs.Lookup.{findLink, descend, Place, found, missing, foundRoot, locate}
 use Rattle.lookup.specs.declared.Located.{Located}
 use Rattle.lookup.specs.declared.Located.the-variants as Located
 use Rattle.lookup.specs.declared.Walked.{Walked}
@@ -25,7 +25,7 @@ lastStep dir none = End.Missing dir
 lastStep dir (some l) = End.Link l
 
 unfoldable pub walkEnds : Namespace → Bool → List ℕ → Checked FileNo → Walked
-walkEnds ns fold name (refused s) = End.Refused s
+walkEnds ns fold name (refused r) = End.Refused (r .status)
 walkEnds ns fold name (passed dir) = lastStep dir (findLink ns fold dir name)
 
 -- the walk from a directory through the components before the last, and the last component's name
@@ -34,12 +34,12 @@ walkedFrom ns fold dir parents name = walkEnds ns fold name (descend ns fold dir
 
 -- the path that its last component's places stand for
 abbrev pub pathTo : List ℕ → LeafParts → Path
-pathTo path l = record { parents = parentsOf path (l .file); leaf = some (asLeaf path l) }
+pathTo path l = record { parents = parentsOf path (l .file); leaf = asLeaf path l }
 
 -- the last component's names; a path without one has none, and is never missing
 unfoldable pub leafNames : List ℕ → ParsedPath → Leaf
-leafNames path Invalid = record { file = []; stream = []; colon = false }
-leafNames path Root = record { file = []; stream = []; colon = false }
+leafNames path Invalid = noLeaf
+leafNames path Root = noLeaf
 leafNames path (Named l) = asLeaf path l
 
 -- where a parsed path leads
@@ -50,6 +50,7 @@ locateParsed ns fold path parsed = do
 
 -- the code's answer, as the definition's: the names that are missing are the last component's
 unfoldable pub asPlace : Leaf → Located → Checked Place
-asPlace leaf (Located.Found f) = passed (found f)
-asPlace leaf (Located.Missing dir) = passed (missing dir (leaf .file) (leaf .stream))
-asPlace leaf (Located.Refused s) = refused s
+asPlace leaf Located.Root = passed foundRoot
+asPlace leaf (Located.Found l f) = passed (found (record { link = some l; file = f }))
+asPlace leaf (Located.Missing dir) = passed (missing dir leaf)
+asPlace leaf (Located.Refused s) = refuse s

@@ -1,14 +1,14 @@
 -- Step 6: from a path to its file. The lowest matching slot wins.
 use Prim.Native.Nat.{ℕ}
-use mathlib.Core.Bool.{Bool, cond, _&&_}
+use mathlib.Core.Bool.{Bool, true, false, cond, _&&_}
 use mathlib.Core.List.{List, [], _∷_}
 use mathlib.Core.Option.{Option, none, some}
 use lib.Dec.{eqb}
-use Rattle.lists.specs.Lists.{first}
+use Rattle.lists.specs.Lists.{first, isEmpty}
 use Rattle.records.specs.Slots.{root, isDirectory}
 use Rattle.tables.specs.Tables.{fileAt, linkAt}
 use Rattle.records.specs.Namespace.{Namespace}
-use Rattle.records.specs.Checked.{Checked, refused, passed, _>>=_}
+use Rattle.records.specs.Checked.{Checked, passed, refuse, _>>=_}
 use Rattle.records.specs.declared.Status.the-variants.{ObjectPathNotFound}
 use Rattle.records.specs.declared.FileNo.{FileNo}
 use Rattle.records.specs.declared.LinkNo.{LinkNo}
@@ -30,10 +30,10 @@ findLink ns fold dir name = linkNumber (first (linkMatches fold dir name) (ns .l
 
 -- a component before the last: the directory that it names
 unfoldable pub stepInto : Namespace → Option LinkNo → Checked FileNo
-stepInto ns none = refused ObjectPathNotFound
+stepInto ns none = refuse ObjectPathNotFound
 stepInto ns (some l) =
     let file = linkAt (ns .links) l .file in
-    cond (isDirectory (fileAt (ns .files) file .«file_type»)) (passed file) (refused ObjectPathNotFound)
+    cond (isDirectory (fileAt (ns .files) file .«file_type»)) (passed file) (refuse ObjectPathNotFound)
 
 unfoldable pub descend : Namespace → Bool → FileNo → List (List ℕ) → Checked FileNo
 descend ns fold dir [] = passed dir
@@ -41,20 +41,33 @@ descend ns fold dir (name ∷ names) = do
   next ← stepInto ns (findLink ns fold dir name)
   descend ns fold next names
 
+-- a file that a path leads to, and the link that names it there: none for the root
+pub record Resolved : Type 0 where
+  pub link : Option LinkNo
+  pub file : FileNo
+
 -- where a path leads: to a file, or to a directory that lacks its last name
 pub data Place : Type 0 where
-  found : FileNo → Place
-  missing : FileNo → List ℕ → List ℕ → Place
+  found : Resolved → Place
+  missing : FileNo → Leaf → Place
 
-unfoldable pub placeOf : Namespace → FileNo → Leaf → Option LinkNo → Place
-placeOf ns dir leaf (some l) = found (linkAt (ns .links) l .file)
-placeOf ns dir leaf none = missing dir (leaf .file) (leaf .stream)
+abbrev pub foundRoot : Place
+foundRoot = found (record { link = none; file = root })
 
-unfoldable pub locateLeaf : Namespace → Bool → FileNo → Option Leaf → Place
-locateLeaf ns fold dir none = found dir
-locateLeaf ns fold dir (some leaf) = placeOf ns dir leaf (findLink ns fold dir (leaf .file))
+abbrev pub foundBy : Namespace → LinkNo → Place
+foundBy ns l = found (record { link = some l; file = linkAt (ns .links) l .file })
 
+unfoldable pub placeIn : Namespace → FileNo → Leaf → Option LinkNo → Place
+placeIn ns dir leaf (some l) = foundBy ns l
+placeIn ns dir leaf none = missing dir leaf
+
+unfoldable pub locateLeaf : Namespace → Bool → FileNo → Leaf → Place
+locateLeaf ns fold dir leaf = placeIn ns dir leaf (findLink ns fold dir (leaf .file))
+
+-- the root's path has no last name
 unfoldable pub locate : Namespace → Bool → Path → Checked Place
-locate ns fold path = do
-  dir ← descend ns fold root (path .parents)
-  passed (locateLeaf ns fold dir (path .leaf))
+locate ns fold path =
+    elim (isEmpty (path .leaf .file)) [
+      | true ↦ passed foundRoot
+      | false ↦ descend ns fold root (path .parents) >>= (λ dir. passed (locateLeaf ns fold dir (path .leaf)))
+    ]

@@ -13,9 +13,10 @@ pub enum Walked {
     Refused(Status),
 }
 
-// Where a path leads: to a file, to a directory that lacks its last name, or to a refusal.
+// Where a path leads: to the root, by a link to its file, to a directory that lacks its last name, or to a refusal.
 pub enum Located {
-    Found(FileNo),
+    Root,
+    Found(LinkNo, FileNo),
     Missing(FileNo),
     Refused(Status),
 }

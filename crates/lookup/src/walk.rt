@@ -92,16 +92,20 @@ fn walk_path(v: Volume, path: &[u16], last: Part, fold: bool) -> Walked
     }
 }
 
-// Where a path with a last component leads.
+// Where a path with a last component leads; without a name it is the root's.
 fn locate_leaf(v: Volume, path: &[u16], leaf: LeafParts, fold: bool) -> Located
     ensures { λ r. ⌜ asPlace (asLeaf (now (path .entry)) leaf) r ≡ locate (namespace v) fold (pathTo (now (path .entry)) leaf) ⌝ }
 {
     let last = leaf.file;
+    let name = part_of(path, last);
+    if name.len() == 0 {
+        return Located::Root;
+    }
     let walked = walk_path(v, path, last, fold);
     match walked {
         Walked::Link(link) => {
             let file = link_at(v, link).file;
-            Located::Found(file)
+            Located::Found(link, file)
         }
         Walked::Missing(dir) => Located::Missing(dir),
         Walked::Refused(status) => Located::Refused(status),
@@ -114,7 +118,7 @@ pub fn locate(v: Volume, path: &[u16], parsed: ParsedPath, fold: bool) -> Locate
 {
     match parsed {
         ParsedPath::Invalid => Located::Refused(Status::ObjectNameInvalid),
-        ParsedPath::Root => Located::Found(FileNo(0)),
+        ParsedPath::Root => Located::Root,
         ParsedPath::Named(leaf) => locate_leaf(v, path, leaf, fold),
     }
 }

@@ -7,12 +7,13 @@ use mathlib.Core.Option.{Option, none, some}
 use lib.ListN.{length}
 use borrow.Author.Tests.{le-leb, lt-leb}
 use Rattle.records.specs.Sizes.{fileNameLimit, streamNameLimit, pathLimit}
-use Rattle.records.specs.Checked.{Checked, refused, passed, _>>=_, _>>_, refuseIf}
+use Rattle.records.specs.Checked.{Checked, refused, passed, refuse, _>>=_, _>>_, refuseIf}
 use Rattle.records.specs.declared.Status.the-variants.{ObjectNameInvalid}
 use Rattle.units.specs.Units.{backslash, colon}
+use Rattle.lists.specs.Lists.{isEmpty}
 use Rattle.names.specs.Names.{validFileName, validStreamName}
 use Rattle.components.specs.Components.{split, components}
-use Rattle.paths.specs.Paths.{Leaf, Path, leafOf, endsIn, validLeaf, checkedLeaf, parseComponents, parsePath}
+use Rattle.paths.specs.Paths.{Leaf, noLeaf, Path, leafOf, endsIn, validLeaf, checkedLeaf, parseComponents, parsePath}
 use Rattle.paths.specs.Positions.{named, checked}
 
 -- the last component
@@ -38,36 +39,36 @@ module _ (wantsDirectory : Bool) (l : Leaf) where
   unfolding validLeaf
   leaf-of-any f s w = rw (f, s, w)
 
-abbrev leafIn : Checked Path → Option Leaf
-leafIn (refused s) = none
+abbrev leafIn : Checked Path → Leaf
+leafIn (refused r) = noLeaf
 leafIn (passed p) = p .leaf
 
 abbrev parentsIn : Checked Path → List (List ℕ)
-parentsIn (refused s) = []
+parentsIn (refused r) = []
 parentsIn (passed p) = p .parents
 
 -- a last component that was refused by its colons, and one that was not
 
-pub checked-none : (wantsDirectory : Bool) (parents : List (List ℕ)) (x : Option Leaf) → refused ObjectNameInvalid ≡ named parents x → refused ObjectNameInvalid ≡ checked wantsDirectory parents x
+pub checked-none : (wantsDirectory : Bool) (parents : List (List ℕ)) (x : Option Leaf) → refuse ObjectNameInvalid ≡ named parents x → refuse ObjectNameInvalid ≡ checked wantsDirectory parents x
 unfolding named checked checkedLeaf _>>=_
 checked-none wantsDirectory parents none e = refl
 checked-none wantsDirectory parents (some l) e = cc
 
-pub never-root : (wantsDirectory : Bool) (parents : List (List ℕ)) (x : Option Leaf) → passed (record { parents = []; leaf = none }) ≡ named parents x → refused ObjectNameInvalid ≡ checked wantsDirectory parents x
-unfolding named checked checkedLeaf _>>=_
+pub never-root : (wantsDirectory : Bool) (parents : List (List ℕ)) (x : Option Leaf) → passed (record { parents = []; leaf = noLeaf }) ≡ named parents x → refuse ObjectNameInvalid ≡ checked wantsDirectory parents x
+unfolding named checked checkedLeaf validFileName isEmpty _>>=_
 never-root wantsDirectory parents none e = refl
-never-root wantsDirectory parents (some l) e = let never : none ≡ some l = ap leafIn e in cc
+never-root wantsDirectory parents (some l) e =
+    rw (← ap leafIn e, leaf-file-bad wantsDirectory noLeaf refl)
 
-pub checked-some : (wantsDirectory : Bool) (parents ps : List (List ℕ)) (x : Option Leaf) (l : Leaf) (b : Bool) → passed (record { parents = ps; leaf = some l }) ≡ named parents x → b ≡ validLeaf wantsDirectory l → cond b (passed (record { parents = ps; leaf = some l })) (refused ObjectNameInvalid) ≡ checked wantsDirectory parents x
+pub checked-some : (wantsDirectory : Bool) (parents ps : List (List ℕ)) (x : Option Leaf) (l : Leaf) (b : Bool) → passed (record { parents = ps; leaf = l }) ≡ named parents x → b ≡ validLeaf wantsDirectory l → cond b (passed (record { parents = ps; leaf = l })) (refuse ObjectNameInvalid) ≡ checked wantsDirectory parents x
 unfolding named checked checkedLeaf _>>=_
 checked-some wantsDirectory parents ps none l b e v = cc
 checked-some wantsDirectory parents ps (some m) l b e v =
-    let one : some l ≡ some m = ap leafIn e in
-    let same-leaf : l ≡ m = cc in
+    let same-leaf : l ≡ m = ap leafIn e in
     let same-parents : ps ≡ parents = ap parentsIn e in
     rw (← same-leaf, ← same-parents, ← v) (go b)
   where
-    go : (t : Bool) → cond {A = Checked Path} t (passed (record { parents = ps; leaf = some l })) (refused ObjectNameInvalid) ≡ (cond t (passed l) (refused ObjectNameInvalid) >>= λ valid. passed (record { parents = ps; leaf = some valid }))
+    go : (t : Bool) → cond {A = Checked Path} t (passed (record { parents = ps; leaf = l })) (refuse ObjectNameInvalid) ≡ (cond t (passed l) (refuse ObjectNameInvalid) >>= λ valid. passed (record { parents = ps; leaf = valid }))
     go true = refl
     go false = refl
 
@@ -92,7 +93,7 @@ module _ (wantsDirectory : Bool) where
   unfolding parseComponents checked _>>=_
   prefixed-last ps c = go (checkedLeaf wantsDirectory (leafOf (split colon c)))
     where
-      go : (l : Checked Leaf) → prefixed ps (l >>= λ v. passed (record { parents = []; leaf = some v })) ≡ (l >>= λ v. passed (record { parents = ps; leaf = some v }))
+      go : (l : Checked Leaf) → prefixed ps (l >>= λ v. passed (record { parents = []; leaf = v })) ≡ (l >>= λ v. passed (record { parents = ps; leaf = v }))
       go (refused s) = refl
       go (passed v) = rw (append-nil ps)
 
@@ -100,18 +101,18 @@ module _ (wantsDirectory : Bool) where
   unfolding parseComponents _>>=_ _>>_ refuseIf
   parse-more c d ds e = rw e
 
-  pub parse-bad : (c d : List ℕ) (ds : List (List ℕ)) → validFileName fileNameLimit c ≡ false → parseComponents wantsDirectory (c ∷ d ∷ ds) ≡ refused ObjectNameInvalid
+  pub parse-bad : (c d : List ℕ) (ds : List (List ℕ)) → validFileName fileNameLimit c ≡ false → parseComponents wantsDirectory (c ∷ d ∷ ds) ≡ refuse ObjectNameInvalid
   unfolding parseComponents _>>=_ _>>_ refuseIf
   parse-bad c d ds e = rw e
 
 -- the path whole
 
 module _ (wantsDirectory wantsFile : Bool) (path : List ℕ) where
-  pub path-long : pathLimit < length path → refused ObjectNameInvalid ≡ parsePath wantsDirectory wantsFile path
+  pub path-long : pathLimit < length path → refuse ObjectNameInvalid ≡ parsePath wantsDirectory wantsFile path
   unfolding parsePath _>>_ refuseIf
   path-long h = rw (lt-leb (length path) pathLimit h)
 
-  pub path-trail : length path ≤ pathLimit → wantsFile ≡ true → endsIn backslash path ≡ true → refused ObjectNameInvalid ≡ parsePath wantsDirectory wantsFile path
+  pub path-trail : length path ≤ pathLimit → wantsFile ≡ true → endsIn backslash path ≡ true → refuse ObjectNameInvalid ≡ parsePath wantsDirectory wantsFile path
   unfolding parsePath _>>_ refuseIf
   path-trail h f e = rw (le-leb (length path) pathLimit h, f, e)
 

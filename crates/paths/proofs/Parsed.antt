@@ -1,25 +1,24 @@
--- What a path that passed step 4 says of its last component.
+-- How step 4 ends: it refuses with OBJECT_NAME_INVALID alone, and the last component of a path that passes is as
+-- LeafFits says; the root's has no name.
 use Prim.Native.Nat.{ℕ}
-use mathlib.Core.Path.{_≡_, refl, sym, _∙_, ap, subst}
+use mathlib.Core.Path.{_≡_, refl}
 use mathlib.Core.Bool.{Bool, true, false, cond, not, _&&_, true≢false}
 use mathlib.Core.List.{List, [], _∷_}
-use mathlib.Core.Option.{Option, none, some, Option·some-injective}
-use lib.Dec.{leb}
-use lib.ListN.{length}
+use mathlib.Core.Option.{Option, none, some}
 use borrow.Author.Tests.{not-true}
-use Rattle.lists.specs.Lists.{isEmpty}
-use Rattle.lists.proofs.Tests.{none≢some, and-left, and-right}
-use Rattle.records.specs.Sizes.{fileNameLimit, streamNameLimit, pathLimit}
-use Rattle.records.specs.Checked.{Checked, refused, passed, _>>=_, _>>_, refuseIf}
+use Rattle.lists.specs.Lists.{all, isEmpty}
+use Rattle.lists.proofs.Tests.{and-left, and-right}
+use Rattle.records.specs.Sizes.{fileNameLimit, streamNameLimit}
+use Rattle.records.specs.Checked.{Refusal}
 use Rattle.records.specs.declared.Status.the-variants.{ObjectNameInvalid}
-use Rattle.records.proofs.Checked.{refused≢passed, passed-same, bind-passed, test-passed}
-use Rattle.units.specs.Units.{backslash, colon, dataType, equalUnits}
+use Rattle.records.proofs.Checked.{Ends, stops, goes, ends-bind, ends-test, ends-cond}
+use Rattle.units.specs.Units.{colon, dataType, equalUnits}
 use Rattle.names.specs.Names.{validFileName, validStreamName}
 use Rattle.components.specs.Components.{split, components}
-use Rattle.paths.specs.Paths.{Leaf, Path, endsIn, leafOf, validLeaf, checkedLeaf, parseComponents, parsePath}
+use Rattle.paths.specs.Paths.{Leaf, noLeaf, Path, leafOf, validLeaf, checkedLeaf, parseComponents, parsePath}
 
 pub record LeafFits (wantsDirectory : Bool) (l : Leaf) : Type 0 where
-  pub fileValid : validFileName fileNameLimit (l .file) ≡ true
+  pub fileValid : isEmpty (l .file) ≡ false → validFileName fileNameLimit (l .file) ≡ true
   pub streamValid : validStreamName streamNameLimit (l .stream) ≡ true
   pub noColon : (wantsDirectory && l .colon) ≡ false
   pub unnamed : l .colon ≡ false → l .stream ≡ []
@@ -27,76 +26,60 @@ pub record LeafFits (wantsDirectory : Bool) (l : Leaf) : Type 0 where
 -- without a colon there is no stream name
 unnamed-of : (parts : List (List ℕ)) (l : Leaf) → leafOf parts ≡ some l → l .colon ≡ false → l .stream ≡ []
 unfolding leafOf
-unnamed-of [] l h c = absurd (none≢some h)
-unnamed-of (f ∷ []) l h c =
-    ap {B = List ℕ} (λ (k : Leaf). k .stream)
-    (sym (Option·some-injective (record { file = f; stream = []; colon = false }) l h))
-unnamed-of (f ∷ s ∷ []) l h c = go (isEmpty s) refl h
+unnamed-of [] l h c = cc
+unnamed-of (f ∷ []) l h c = cc
+unnamed-of (f ∷ s ∷ []) l h c = go (isEmpty s) h
   where
-    leaf : Leaf
-    leaf = record { file = f; stream = s; colon = true }
-
-    go : (b : Bool) → isEmpty s ≡ b → cond b none (some leaf) ≡ some l → l .stream ≡ []
-    go true e k = absurd (none≢some k)
-    go false e k = absurd (true≢false (ap (λ (m : Leaf). m .colon) (Option·some-injective leaf l k) ∙ c))
-unnamed-of (f ∷ s ∷ t ∷ []) l h c = go (equalUnits true t dataType) refl h
+    go : (b : Bool) → cond b none (some (record { file = f; stream = s; colon = true })) ≡ some l → l .stream ≡ []
+    go true k = cc
+    go false k = cc
+unnamed-of (f ∷ s ∷ t ∷ []) l h c = go (equalUnits true t dataType) h
   where
-    leaf : Leaf
-    leaf = record { file = f; stream = s; colon = true }
+    go : (b : Bool) → cond b (some (record { file = f; stream = s; colon = true })) none ≡ some l → l .stream ≡ []
+    go true k = cc
+    go false k = cc
+unnamed-of (f ∷ s ∷ t ∷ u ∷ us) l h c = cc
 
-    go : (b : Bool) → equalUnits true t dataType ≡ b → cond b (some leaf) none ≡ some l → l .stream ≡ []
-    go true e k = absurd (true≢false (ap (λ (m : Leaf). m .colon) (Option·some-injective leaf l k) ∙ c))
-    go false e k = absurd (none≢some k)
-unnamed-of (f ∷ s ∷ t ∷ u ∷ us) l h c = absurd (none≢some h)
-
-checked-leaf : (wantsDirectory : Bool) (parts : List (List ℕ)) (l : Leaf)
-    → checkedLeaf wantsDirectory (leafOf parts) ≡ passed l → LeafFits wantsDirectory l
-unfolding validLeaf checkedLeaf
-checked-leaf wd parts l h = go (leafOf parts) refl h
+-- the root's
+no-leaf : (wd : Bool) → LeafFits wd noLeaf
+unfolding isEmpty validStreamName all
+no-leaf wd =
+    record { fileValid = λ e. absurd (true≢false e); streamValid = refl; noColon = none wd; unnamed = λ e. refl }
   where
-    fits : (m : Leaf) → leafOf parts ≡ some m → validLeaf wd m ≡ true → LeafFits wd m
-    fits m e v =
-        let a = validFileName fileNameLimit (m .file) in
-        let b = validStreamName streamNameLimit (m .stream) in
-        let c = not (wd && m .colon) in
-        record {
-          fileValid = and-left a b (and-left (a && b) c v);
-          streamValid = and-right a b (and-left (a && b) c v);
-          noColon = not-true (wd && m .colon) (and-right (a && b) c v);
-          unnamed = unnamed-of parts m e;
-        }
+    none : (b : Bool) → (b && false) ≡ false
+    none true = refl
+    none false = refl
 
-    tested-leaf : (m : Leaf) → leafOf parts ≡ some m → (b : Bool) → validLeaf wd m ≡ b
-        → cond b (passed m) (refused ObjectNameInvalid) ≡ passed l → LeafFits wd l
-    tested-leaf m e true v k =
-        subst (λ (n : Leaf). LeafFits wd n) (passed-same k) (fits m e v)
-    tested-leaf m e false v k = absurd (refused≢passed k)
+-- the chain of its parts
+module _ {Q : Refusal → Type 0} (invalid : Q (record { status = ObjectNameInvalid })) (wd : Bool) where
+  leaf-ends : (parts : List (List ℕ)) → Ends Q (LeafFits wd) (checkedLeaf wd (leafOf parts))
+  unfolding validLeaf checkedLeaf
+  leaf-ends parts = go (leafOf parts) refl
+    where
+      fits : (l : Leaf) → leafOf parts ≡ some l → validLeaf wd l ≡ true → LeafFits wd l
+      fits l e v =
+          let a = validFileName fileNameLimit (l .file) in
+          let b = validStreamName streamNameLimit (l .stream) in
+          let c = not (wd && l .colon) in
+          record {
+            fileValid = λ named. and-left a b (and-left (a && b) c v);
+            streamValid = and-right a b (and-left (a && b) c v);
+            noColon = not-true (wd && l .colon) (and-right (a && b) c v);
+            unnamed = unnamed-of parts l e;
+          }
 
-    go : (o : Option Leaf) → leafOf parts ≡ o → checkedLeaf wd o ≡ passed l → LeafFits wd l
-    go none e k = absurd (refused≢passed k)
-    go (some m) e k = tested-leaf m e (validLeaf wd m) refl k
+      go : (o : Option Leaf) → leafOf parts ≡ o → Ends Q (LeafFits wd) (checkedLeaf wd o)
+      go none e = stops invalid
+      go (some l) e = ends-cond (validLeaf wd l) (λ v. goes (fits l e v)) (λ v. stops invalid)
 
--- the leaf of parsed components, where there is one
-components-leaf : (wantsDirectory : Bool) (cs : List (List ℕ)) (p : Path) → parseComponents wantsDirectory cs ≡ passed p
-    → (l : Leaf) → p .leaf ≡ some l → LeafFits wantsDirectory l
-unfolding parseComponents
-components-leaf wd [] p h l e = absurd (none≢some (ap (λ (q : Path). q .leaf) (passed-same h) ∙ e))
-components-leaf wd (c ∷ []) p h l e =
-    let q = bind-passed (checkedLeaf wd (leafOf (split colon c))) (λ m. passed (record { parents = []; leaf = some m })) h in
-    let s = ap (λ (r : Path). r .leaf) (passed-same (q .2)) ∙ e in
-    subst (λ (n : Leaf). LeafFits wd n) (Option·some-injective (q .0) l s)
-    (checked-leaf wd (split colon c) (q .0) (q .1))
-components-leaf wd (c ∷ d ∷ ds) p h l e =
-    let t = test-passed (not (validFileName fileNameLimit c)) ObjectNameInvalid
-    (parseComponents wd (d ∷ ds) >>= (λ rest. passed (record { parents = c ∷ rest .parents; leaf = rest .leaf }))) h in
-    let q = bind-passed (parseComponents wd (d ∷ ds)) (λ rest. passed (record { parents = c ∷ rest .parents; leaf = rest .leaf })) (t .1) in
-    components-leaf wd (d ∷ ds) (q .0) (q .1) l (ap (λ (r : Path). r .leaf) (passed-same (q .2)) ∙ e)
+  components-ends : (cs : List (List ℕ)) → Ends Q (λ p. LeafFits wd (p .leaf)) (parseComponents wd cs)
+  unfolding parseComponents
+  components-ends [] = goes (no-leaf wd)
+  components-ends (c ∷ []) = ends-bind (leaf-ends (split colon c)) (λ l fits. goes fits)
+  components-ends (c ∷ d ∷ ds) =
+      ends-test _ _ invalid (λ valid. ends-bind (components-ends (d ∷ ds)) (λ p fits. goes fits))
 
-pub parsed-leaf : (wantsDirectory wantsFile : Bool) (units : List ℕ) (p : Path)
-    → parsePath wantsDirectory wantsFile units ≡ passed p → (l : Leaf) → p .leaf ≡ some l → LeafFits wantsDirectory l
-unfolding parsePath
-parsed-leaf wd wf units p h =
-    let a = test-passed (not (leb (length units) pathLimit)) ObjectNameInvalid
-    (refuseIf (wf && endsIn backslash units) ObjectNameInvalid >> parseComponents wd (components units)) h in
-    let b = test-passed (wf && endsIn backslash units) ObjectNameInvalid (parseComponents wd (components units)) (a .1) in
-    components-leaf wd (components units) p (b .1)
+  pub parsed-ends : (wf : Bool) (units : List ℕ) → Ends Q (λ p. LeafFits wd (p .leaf)) (parsePath wd wf units)
+  unfolding parsePath
+  parsed-ends wf units =
+      ends-test _ _ invalid (λ short. ends-test _ _ invalid (λ last. components-ends (components units)))

@@ -6,7 +6,7 @@ use mathlib.Core.List.{List, [], _∷_}
 use mathlib.Core.Option.{none}
 use lib.ListN.{take, drop}
 use Rattle.records.specs.Sizes.{fileNameLimit}
-use Rattle.records.specs.Checked.{refused, passed, _>>=_}
+use Rattle.records.specs.Checked.{passed, refuse, _>>=_}
 use Rattle.records.specs.declared.Status.the-variants.{ObjectNameInvalid}
 use Rattle.units.specs.Units.{backslash, colon}
 use Rattle.names.specs.Names.{validFileName}
@@ -15,7 +15,7 @@ use Rattle.components.specs.Positions.{placeOf, partOf, nextComponent}
 use Rattle.components.specs.declared.Part.{Part}
 use Rattle.components.proofs.Splitting.{Open}
 use Rattle.components.proofs.Places.{next-found, next-none, first-open, first-parents, next-open, next-parents}
-use Rattle.paths.specs.Paths.{leafOf, parseComponents}
+use Rattle.paths.specs.Paths.{noLeaf, leafOf, parseComponents}
 use Rattle.paths.specs.Positions.{checked}
 use Rattle.paths.proofs.Judging.{prefixed, prefixed-nil, prefixed-twice, prefixed-last, parse-more, parse-bad}
 
@@ -34,7 +34,7 @@ ends-next path at = refl
 module _ (wantsDirectory : Bool) (path : List ℕ) where
   -- the first
 
-  pub first-none : nextComponent path 0 .start ≡ nextComponent path 0 .end → passed (record { parents = []; leaf = none }) ≡ parseComponents wantsDirectory (components path)
+  pub first-none : nextComponent path 0 .start ≡ nextComponent path 0 .end → passed (record { parents = []; leaf = noLeaf }) ≡ parseComponents wantsDirectory (components path)
   unfolding parseComponents
   first-none e = rw (next-none path 0 e)
 
@@ -75,7 +75,7 @@ module _ (wantsDirectory : Bool) (path : List ℕ) where
               ∙ ap (λ (ps : List (List ℕ)). prefixed ps rest) (sym (next-parents path (part .start) (part .end) (at .ends) ne (at .some) (at .opened)));
         }
 
-    pub at-bad : (nextComponent path (part .end) .start ≡ nextComponent path (part .end) .end → ⊥) → validFileName fileNameLimit (partOf path part) ≡ false → refused ObjectNameInvalid ≡ parseComponents wantsDirectory (components path)
+    pub at-bad : (nextComponent path (part .end) .start ≡ nextComponent path (part .end) .end → ⊥) → validFileName fileNameLimit (partOf path part) ≡ false → refuse ObjectNameInvalid ≡ parseComponents wantsDirectory (components path)
     unfolding _>>=_
     at-bad ne bad =
         let q = nextComponent path (part .end) in

@@ -1,2 +1,3 @@
 pub mod Paths
 pub mod Positions
+pub mod Evaluate

@@ -8,7 +8,7 @@ use lib.Dec.{eqb, leb}
 use lib.ListN.{length}
 use Rattle.lists.specs.Lists.{isEmpty}
 use Rattle.records.specs.Sizes.{fileNameLimit, streamNameLimit, pathLimit}
-use Rattle.records.specs.Checked.{Checked, refused, passed, _>>=_, _>>_, refuseIf}
+use Rattle.records.specs.Checked.{Checked, passed, refuse, _>>=_, _>>_, refuseIf}
 use Rattle.records.specs.declared.Status.the-variants.{ObjectNameInvalid}
 use Rattle.units.specs.Units.{backslash, colon, dataType, equalUnits}
 use Rattle.names.specs.Names.{validFileName, validStreamName}
@@ -20,10 +20,14 @@ pub record Leaf : Type 0 where
   pub stream : List ℕ
   pub colon : Bool
 
--- a valid path: the components before the last, and the last; without a component it is the root
+-- the root's path has no last component: its names are empty
+abbrev pub noLeaf : Leaf
+noLeaf = record { file = []; stream = []; colon = false }
+
+-- a valid path: the components before the last, and the last
 pub record Path : Type 0 where
   pub parents : List (List ℕ)
-  pub leaf : Option Leaf
+  pub leaf : Leaf
 
 unfoldable pub endsIn : ℕ → List ℕ → Bool
 endsIn sign [] = false
@@ -46,15 +50,15 @@ validLeaf wantsDirectory l =
     && not (wantsDirectory && l .colon)
 
 unfoldable pub checkedLeaf : Bool → Option Leaf → Checked Leaf
-checkedLeaf wantsDirectory none = refused ObjectNameInvalid
-checkedLeaf wantsDirectory (some l) = cond (validLeaf wantsDirectory l) (passed l) (refused ObjectNameInvalid)
+checkedLeaf wantsDirectory none = refuse ObjectNameInvalid
+checkedLeaf wantsDirectory (some l) = cond (validLeaf wantsDirectory l) (passed l) (refuse ObjectNameInvalid)
 
 -- components in order, each before the last a valid file name (so without a colon)
 unfoldable pub parseComponents : Bool → List (List ℕ) → Checked Path
-parseComponents wantsDirectory [] = passed (record { parents = []; leaf = none })
+parseComponents wantsDirectory [] = passed (record { parents = []; leaf = noLeaf })
 parseComponents wantsDirectory (c ∷ []) = do
   l ← checkedLeaf wantsDirectory (leafOf (split colon c))
-  passed (record { parents = []; leaf = some l })
+  passed (record { parents = []; leaf = l })
 parseComponents wantsDirectory (c ∷ d ∷ ds) = do
   refuseIf (not (validFileName fileNameLimit c)) ObjectNameInvalid
   rest ← parseComponents wantsDirectory (d ∷ ds)

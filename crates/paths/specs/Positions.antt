@@ -3,10 +3,10 @@ use Prim.Native.Nat.{ℕ}
 use mathlib.Core.Bool.{Bool}
 use mathlib.Core.List.{List, []}
 use mathlib.Core.Option.{Option, none, some}
-use Rattle.records.specs.Checked.{Checked, refused, passed, _>>=_}
+use Rattle.records.specs.Checked.{Checked, passed, refuse, _>>=_}
 use Rattle.records.specs.declared.Status.the-variants.{ObjectNameInvalid}
 use Rattle.components.specs.Positions.{partOf, parentsOf}
-use Rattle.paths.specs.Paths.{Leaf, Path, checkedLeaf}
+use Rattle.paths.specs.Paths.{Leaf, noLeaf, Path, checkedLeaf}
 use Rattle.paths.specs.declared.LeafParts.{LeafParts}
 use Rattle.paths.specs.declared.ParsedPath.{ParsedPath}
 use Rattle.paths.specs.declared.ParsedPath.the-variants.{Invalid, Root, Named}
@@ -16,16 +16,16 @@ unfoldable pub asLeaf : List ℕ → LeafParts → Leaf
 asLeaf path l = record { file = partOf path (l .file); stream = partOf path (l .stream); colon = l .colon }
 
 unfoldable pub asPath : List ℕ → ParsedPath → Checked Path
-asPath path Invalid = refused ObjectNameInvalid
-asPath path Root = passed (record { parents = []; leaf = none })
-asPath path (Named l) = passed (record { parents = parentsOf path (l .file); leaf = some (asLeaf path l) })
+asPath path Invalid = refuse ObjectNameInvalid
+asPath path Root = passed (record { parents = []; leaf = noLeaf })
+asPath path (Named l) = passed (record { parents = parentsOf path (l .file); leaf = asLeaf path l })
 
 -- a last component after the components given, before its names are judged and after
 unfoldable pub named : List (List ℕ) → Option Leaf → Checked Path
-named parents none = refused ObjectNameInvalid
-named parents (some l) = passed (record { parents = parents; leaf = some l })
+named parents none = refuse ObjectNameInvalid
+named parents (some l) = passed (record { parents = parents; leaf = l })
 
 unfoldable pub checked : Bool → List (List ℕ) → Option Leaf → Checked Path
 checked wantsDirectory parents l = do
   valid ← checkedLeaf wantsDirectory l
-  passed (record { parents = parents; leaf = some valid })
+  passed (record { parents = parents; leaf = valid })

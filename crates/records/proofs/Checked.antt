@@ -1,19 +1,20 @@
 -- A chain of steps passes exactly when each step passes: what a passed chain says of its parts.
-use mathlib.Core.Path.{_≡_, refl, sym, _∙_, ap}
-use mathlib.Core.Bool.{Bool, true, false}
+use mathlib.Core.Path.{_≡_, refl, ap}
+use mathlib.Core.Bool.{Bool, true, false, cond}
+use mathlib.Core.Option.{Option, none, some}
 use native.Mathlib.Omega.{arith}
 use Prim.Native.Nat.{ℕ}
-use Rattle.records.specs.Checked.{Checked, refused, passed, _>>=_, _>>_, refuseIf}
+use Rattle.records.specs.Checked.{Refusal, Checked, refused, passed, refuse, _>>=_, _>>_, refuseIf, someOr}
 use Rattle.records.specs.declared.Status.{Status}
 
 -- a refusal is no passed value
-pub refused≢passed : {A : Type 0} {s : Status} {a : A} → Path (Checked A) (refused s) (passed a) → ⊥
+pub refused≢passed : {A : Type 0} {r : Refusal} {a : A} → Path (Checked A) (refused r) (passed a) → ⊥
 refused≢passed e = let z : _≡_ {A = ℕ} 0 1 = cc in omega arith
 
 pub passed-same : {A : Type 0} {a b : A} → Path (Checked A) (passed a) (passed b) → a ≡ b
 passed-same e = cc
 
-pub refused-same : {A : Type 0} {s t : Status} → Path (Checked A) (refused s) (refused t) → s ≡ t
+pub refused-same : {A : Type 0} {q r : Refusal} → Path (Checked A) (refused q) (refused r) → q ≡ r
 refused-same e = cc
 
 module _ {A B : Type 0} where
@@ -34,7 +35,7 @@ module _ {A B : Type 0} where
   unfolding _>>=_
   bind-of f h = ap (λ (c : Checked A). c >>= f) h
 
-  pub bind-refused : {e : Checked A} (f : A → Checked B) {s : Status} → e ≡ refused s → (e >>= f) ≡ refused s
+  pub bind-refused : {e : Checked A} (f : A → Checked B) {r : Refusal} → e ≡ refused r → (e >>= f) ≡ refused r
   unfolding _>>=_
   bind-refused f h = ap (λ (c : Checked A). c >>= f) h
 
@@ -48,10 +49,60 @@ module _ {B : Type 0} where
   pub test-passed : (b : Bool) (s : Status) (g : Checked B) {a : B} → (refuseIf b s >> g) ≡ passed a → (b ≡ false) × (g ≡ passed a)
   test-passed b s g h = let q = then-passed (refuseIf b s) g h in (refuse-passed b s (q .1), q .2)
 
-  pub test-refuses : {b : Bool} (s : Status) (g : Checked B) → b ≡ true → (refuseIf b s >> g) ≡ refused s
+  pub test-refuses : {b : Bool} (s : Status) (g : Checked B) → b ≡ true → (refuseIf b s >> g) ≡ refuse s
   unfolding refuseIf _>>_
   test-refuses s g e = ap (λ (b : Bool). refuseIf b s >> g) e
 
   pub test-passes : {b : Bool} (s : Status) (g : Checked B) → b ≡ false → (refuseIf b s >> g) ≡ g
   unfolding refuseIf _>>_
   test-passes s g e = ap (λ (b : Bool). refuseIf b s >> g) e
+
+-- how a chain of steps ends: what its refusals satisfy, and what its passed value does
+pub data Ends {A : Type 0} (Q : Refusal → Type 0) (P : A → Type 0) : Checked A → Type 0 where
+  stops : {r : Refusal} → Q r → Ends Q P (refused r)
+  goes : {a : A} → P a → Ends Q P (passed a)
+
+pub stopped : {A : Type 0} {Q : Refusal → Type 0} {P : A → Type 0} {r : Refusal} → Ends Q P (refused r) → Q r
+stopped (stops q) = q
+
+pub went : {A : Type 0} {Q : Refusal → Type 0} {P : A → Type 0} {a : A} → Ends Q P (passed a) → P a
+went (goes p) = p
+
+module _ {A : Type 0} {Q : Refusal → Type 0} {P : A → Type 0} where
+  -- one step after the other
+  pub ends-bind : {B : Type 0} {R : B → Type 0} {e : Checked A} {f : A → Checked B} → Ends Q P e
+      → ((a : A) → P a → Ends Q R (f a)) → Ends Q R (e >>= f)
+  unfolding _>>=_
+  ends-bind (stops q) k = stops q
+  ends-bind (goes {a} p) k = k a p
+
+  pub ends-then : {B : Type 0} {R : B → Type 0} {e : Checked A} {g : Checked B} → Ends Q P e
+      → ((a : A) → P a → Ends Q R g) → Ends Q R (e >> g)
+  unfolding _>>_
+  ends-then (stops q) k = stops q
+  ends-then (goes {a} p) k = k a p
+
+  -- a test, and the rest where it does not refuse
+  pub ends-test : (b : Bool) (s : Status) {g : Checked A} → Q (record { status = s }) → (b ≡ false → Ends Q P g)
+      → Ends Q P (refuseIf b s >> g)
+  unfolding _>>_ refuseIf
+  ends-test true s q h = stops q
+  ends-test false s q h = h refl
+
+  -- one of two, by a test
+  pub ends-cond : (b : Bool) {x y : Checked A} → (b ≡ true → Ends Q P x) → (b ≡ false → Ends Q P y) → Ends Q P (cond b x y)
+  ends-cond true h k = h refl
+  ends-cond false h k = k refl
+
+  -- a value that is there
+  pub ends-some : (s : Status) (o : Option A) → (o ≡ none → Q (record { status = s })) → ((a : A) → o ≡ some a → P a)
+      → Ends Q P (someOr s o)
+  unfolding someOr
+  ends-some s none q h = stops (q refl)
+  ends-some s (some a) q h = goes (h a refl)
+
+  -- what follows from each
+  pub ends-weaker : {Q′ : Refusal → Type 0} {P′ : A → Type 0} {c : Checked A}
+      → ((r : Refusal) → Q r → Q′ r) → ((a : A) → P a → P′ a) → Ends Q P c → Ends Q′ P′ c
+  ends-weaker i j (stops {r} q) = stops (i r q)
+  ends-weaker i j (goes {a} p) = goes (j a p)

@@ -71,8 +71,9 @@ delete = 0x10000
 abbrev pub allAccess : ℕ
 allAccess = 0x1F01FF
 
-abbrev pub genericWrite : ℕ
-genericWrite = 0x120116
+-- FILE_GENERIC_WRITE
+abbrev pub fileGenericWrite : ℕ
+fileGenericWrite = 0x120116
 
 abbrev pub maximumAllowed : ℕ
 maximumAllowed = 0x02000000

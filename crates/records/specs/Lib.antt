@@ -3,5 +3,8 @@ pub mod Sizes
 pub mod Constants
 pub mod Numbers
 pub mod Slots
+pub mod Terms
 pub mod Namespace
 pub mod Checked
+pub mod State
+pub mod Evaluate

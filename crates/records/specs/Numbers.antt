@@ -31,14 +31,30 @@ actionNumber Opened = 1
 actionNumber Created = 2
 actionNumber Overwritten = 3
 
--- what a caller sees of an outcome: status, action if there is one, handle
-pub record Numbers : Type 0 where
+-- a call's reply: how it ended, and the access granted
+pub record Reply : Type 0 where
+  pub outcome : Outcome
+  pub granted : ℕ
+
+-- what a caller sees of a reply
+pub record Seen : Type 0 where
   pub status : ℕ
   pub action : Option ℕ
   pub handle : ℕ
+  pub granted : ℕ
 
 -- success is 0; a refusal returns its number, no action and handle 0
-unfoldable pub outcomeNumbers : Outcome → Numbers
-outcomeNumbers (Success a h) = record { status = 0; action = some (actionNumber a); handle = h .0 }
-outcomeNumbers Done = record { status = 0; action = none; handle = 0 }
-outcomeNumbers (Refused s) = record { status = statusNumber s; action = none; handle = 0 }
+unfoldable pub seen : Reply → Seen
+seen r =
+    elim (r .outcome) [
+      | Success a h ↦ record { status = 0; action = some (actionNumber a); handle = h .0; granted = r .granted }
+      | Done ↦ record { status = 0; action = none; handle = 0; granted = r .granted }
+      | Refused s ↦ record { status = statusNumber s; action = none; handle = 0; granted = r .granted }
+    ]
+
+-- the reply of a refusal, and that of a call that is done without an action: granted 0
+abbrev pub refusedReply : Status → Reply
+refusedReply s = record { outcome = Refused s; granted = 0 }
+
+abbrev pub doneReply : Reply
+doneReply = record { outcome = Done; granted = 0 }

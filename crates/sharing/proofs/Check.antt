@@ -9,16 +9,17 @@ use Rattle.lists.proofs.Tests.{and-left}
 use Rattle.lists.proofs.Keep.{any-same, any-keep}
 use Rattle.lists.proofs.Counting.{count-some, count-fewer, any-or, any-and}
 use Rattle.lists.proofs.Permutations.{perm-any}
+use Rattle.records.specs.Terms.{Terms, termsOf}
 use Rattle.records.specs.declared.StreamNo.{StreamNo}
 use Rattle.records.specs.declared.Open.{Open}
 use Rattle.sharing.specs.Sharing.{Kind, reading, writing, deleting, anyKind, holds, shares, counted, conflict, onStream, anyConflict, isHolder, isSharer, countsOfAll, countsOf, holders, sharers, shareCheck}
 use Rattle.sharing.proofs.PairRule.{any-kind-same}
 use Rattle.sharing.proofs.Counts.{opens-of, holders-of, sharers-of}
 
-pub any-conflict-perm : {xs ys : List Open} → Permutation xs ys → (s : StreamNo) (granted share : ℕ)
-    → anyConflict s granted share xs ≡ anyConflict s granted share ys
+pub any-conflict-perm : {xs ys : List Open} → Permutation xs ys → (s : StreamNo) (t : Terms)
+    → anyConflict s t xs ≡ anyConflict s t ys
 unfolding anyConflict
-any-conflict-perm h s granted share = perm-any _ h
+any-conflict-perm h s t = perm-any _ h
 
 -- some element passes for some kind
 any-any-kind : {A : Type 0} (p : Kind → A → Bool) (xs : List A)
@@ -28,15 +29,15 @@ any-any-kind p xs =
     any-or (λ x. p reading x || p writing x) (p deleting) xs
     ∙ ap (λ (b : Bool). b || any (p deleting) xs) (any-or (p reading) (p writing) xs)
 
-module _ (granted share : ℕ) where
+module _ (t : Terms) where
   -- a counted open conflicts with the new one over a kind: it doesn't share it, or it holds it
   over : Kind → Open → Bool
-  over k o = (holds k granted && (counted (o .granted) && not (isSharer k o))) || (not (shares k share) && isHolder k o)
+  over k o = (holds k (t .granted) && (counted (o .granted) && not (isSharer k o))) || (not (shares k (t .share)) && isHolder k o)
 
   -- the pair rule, by kinds
-  conflict-over : (o : Open) → conflict (o .granted) (o .share) granted share ≡ (counted granted && anyKind (λ k. over k o))
+  conflict-over : (o : Open) → conflict (termsOf o) t ≡ (counted (t .granted) && anyKind (λ k. over k o))
   unfolding conflict anyKind over isSharer isHolder
-  conflict-over o = go (counted (o .granted)) (counted granted)
+  conflict-over o = go (counted (o .granted)) (counted (t .granted))
     where
       none : (a b : Bool) → false ≡ ((a && false) || (b && false))
       none true true = refl
@@ -60,49 +61,49 @@ module _ (granted share : ℕ) where
 
       go : (c g : Bool)
           → ((c && g)
-          && anyKind (λ k. (holds k (o .granted) && not (shares k share)) || (holds k granted && not (shares k (o .share)))))
+          && anyKind (λ k. (holds k (o .granted) && not (shares k (t .share))) || (holds k (t .granted) && not (shares k (o .share)))))
           ≡ (g
-          && anyKind (λ k. (holds k granted && (c && not (c && shares k (o .share))))
-          || (not (shares k share) && (c && holds k (o .granted)))))
+          && anyKind (λ k. (holds k (t .granted) && (c && not (c && shares k (o .share))))
+          || (not (shares k (t .share)) && (c && holds k (o .granted)))))
       go true true =
           any-kind-same _ _
-          (λ k. turned (holds k (o .granted)) (not (shares k share)) (holds k granted) (not (shares k (o .share))))
+          (λ k. turned (holds k (o .granted)) (not (shares k (t .share))) (holds k (t .granted)) (not (shares k (o .share))))
       go true false = refl
-      go false true = any-kind-same (λ k. false) _ (λ k. none (holds k granted) (not (shares k share)))
+      go false true = any-kind-same (λ k. false) _ (λ k. none (holds k (t .granted)) (not (shares k (t .share))))
       go false false = refl
 
   -- from the counts, kind by kind
   over-count : (os : List Open) (k : Kind)
-      → ((holds k granted && ltb (sharers k (countsOfAll os)) (countsOfAll os .opens))
-      || (not (shares k share) && not (eqb (holders k (countsOfAll os)) 0)))
+      → ((holds k (t .granted) && ltb (sharers k (countsOfAll os)) (countsOfAll os .opens))
+      || (not (shares k (t .share)) && not (eqb (holders k (countsOfAll os)) 0)))
       ≡ any (over k) os
   unfolding over isSharer
   over-count os k =
-      ap₂ (λ (a b : Bool). (holds k granted && a) || (not (shares k share) && b))
+      ap₂ (λ (a b : Bool). (holds k (t .granted) && a) || (not (shares k (t .share)) && b))
       (ap₂ ltb (sharers-of os k) (opens-of os)
       ∙ count-fewer isCounted (isSharer k) (λ o. and-left (isCounted o) (shares k (o .share))) os)
       (ap (λ (n : ℕ). not (eqb n 0)) (holders-of os k) ∙ count-some (isHolder k) os)
       ∙ sym
-      (any-or (λ o. holds k granted && (isCounted o && not (isSharer k o)))
-      (λ o. not (shares k share) && isHolder k o) os
-      ∙ ap₂ (λ (a b : Bool). a || b) (any-and (holds k granted) (λ o. isCounted o && not (isSharer k o)) os)
-      (any-and (not (shares k share)) (isHolder k) os))
+      (any-or (λ o. holds k (t .granted) && (isCounted o && not (isSharer k o)))
+      (λ o. not (shares k (t .share)) && isHolder k o) os
+      ∙ ap₂ (λ (a b : Bool). a || b) (any-and (holds k (t .granted)) (λ o. isCounted o && not (isSharer k o)) os)
+      (any-and (not (shares k (t .share))) (isHolder k) os))
     where
       isCounted : Open → Bool
       isCounted o = counted (o .granted)
 
   all-check-right : (os : List Open)
-      → shareCheck (countsOfAll os) granted share ≡ any (λ o. conflict (o .granted) (o .share) granted share) os
+      → shareCheck (countsOfAll os) t ≡ any (λ o. conflict (termsOf o) t) os
   unfolding shareCheck
   all-check-right os =
-      ap (λ (b : Bool). counted granted && b) (any-kind-same _ _ (over-count os) ∙ sym (any-any-kind over os))
-      ∙ sym (any-and (counted granted) (λ o. anyKind (λ k. over k o)) os)
+      ap (λ (b : Bool). counted (t .granted) && b) (any-kind-same _ _ (over-count os) ∙ sym (any-any-kind over os))
+      ∙ sym (any-and (counted (t .granted)) (λ o. anyKind (λ k. over k o)) os)
       ∙ sym (any-same _ _ conflict-over os)
 
 -- the share check from true counts
-pub share-check-right : (s : StreamNo) (os : List Open) (granted share : ℕ)
-    → shareCheck (countsOf s os) granted share ≡ anyConflict s granted share os
+pub share-check-right : (s : StreamNo) (os : List Open) (t : Terms)
+    → shareCheck (countsOf s os) t ≡ anyConflict s t os
 unfolding countsOf anyConflict
-share-check-right s os granted share =
-    all-check-right granted share (keep (onStream s) os)
-    ∙ any-keep (onStream s) (λ o. conflict (o .granted) (o .share) granted share) os
+share-check-right s os t =
+    all-check-right t (keep (onStream s) os)
+    ∙ any-keep (onStream s) (λ o. conflict (termsOf o) t) os

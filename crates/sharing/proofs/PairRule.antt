@@ -4,6 +4,7 @@ use Prim.Native.Nat.{ℕ}
 use mathlib.Core.Path.{_≡_, refl, ap₂}
 use mathlib.Core.Bool.{Bool, true, false, not, _&&_, _||_}
 use Rattle.lists.proofs.Tests.{or-left, or-right}
+use Rattle.records.specs.Terms.{Terms, termsOf}
 use Rattle.records.specs.declared.Open.{Open}
 use Rattle.sharing.specs.Sharing.{Kind, reading, writing, deleting, anyKind, holds, shares, counted, conflict, conflicting}
 
@@ -35,17 +36,18 @@ and-swap true false = refl
 and-swap false true = refl
 and-swap false false = refl
 
-pub conflict-sym : (g s g′ s′ : ℕ) → conflict g s g′ s′ ≡ conflict g′ s′ g s
+pub conflict-sym : (t t′ : Terms) → conflict t t′ ≡ conflict t′ t
 unfolding conflict
-conflict-sym g s g′ s′ =
-    ap₂ (λ (a b : Bool). a && b) (and-swap (counted g) (counted g′))
-    (any-kind-same _ _ (λ k. or-swap (holds k g && not (shares k s′)) (holds k g′ && not (shares k s))))
+conflict-sym t t′ =
+    ap₂ (λ (a b : Bool). a && b) (and-swap (counted (t .granted)) (counted (t′ .granted)))
+    (any-kind-same _ _
+    (λ k. or-swap (holds k (t .granted) && not (shares k (t′ .share))) (holds k (t′ .granted) && not (shares k (t .share)))))
 
 pub conflicting-sym : (o o′ : Open) → conflicting o o′ ≡ conflicting o′ o
 unfolding conflicting
-conflicting-sym o o′ = conflict-sym (o .granted) (o .share) (o′ .granted) (o′ .share)
+conflicting-sym o o′ = conflict-sym (termsOf o) (termsOf o′)
 
 -- an uncounted open conflicts with none
-pub conflict-uncounted : (g s g′ s′ : ℕ) → counted g ≡ false → conflict g s g′ s′ ≡ false
+pub conflict-uncounted : (t t′ : Terms) → counted (t .granted) ≡ false → conflict t t′ ≡ false
 unfolding conflict
-conflict-uncounted g s g′ s′ h = rw h
+conflict-uncounted t t′ h = rw h

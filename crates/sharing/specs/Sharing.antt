@@ -5,6 +5,7 @@ use mathlib.Core.List.{List}
 use lib.Dec.{eqb, ltb}
 use Rattle.bits.specs.Bits.{has}
 use Rattle.lists.specs.Lists.{all, any, count, keep}
+use Rattle.records.specs.Terms.{Terms, termsOf}
 use Rattle.records.specs.declared.StreamNo.{StreamNo}
 use Rattle.records.specs.declared.Open.{Open}
 use Rattle.records.specs.declared.ShareCounts.{ShareCounts}
@@ -39,22 +40,23 @@ unfoldable pub counted : ℕ → Bool
 counted granted = anyKind (λ k. holds k granted)
 
 -- the pair rule (the paper's clash): two counted opens conflict when either has a kind that the other doesn't share
-unfoldable pub conflict : ℕ → ℕ → ℕ → ℕ → Bool
-conflict granted share granted′ share′ =
-    counted granted
-    && counted granted′
-    && anyKind (λ k. (holds k granted && not (shares k share′)) || (holds k granted′ && not (shares k share)))
+unfoldable pub conflict : Terms → Terms → Bool
+conflict t t′ =
+    counted (t .granted)
+    && counted (t′ .granted)
+    && anyKind
+    (λ k. (holds k (t .granted) && not (shares k (t′ .share))) || (holds k (t′ .granted) && not (shares k (t .share))))
 
 unfoldable pub conflicting : Open → Open → Bool
-conflicting o o′ = conflict (o .granted) (o .share) (o′ .granted) (o′ .share)
+conflicting o o′ = conflict (termsOf o) (termsOf o′)
 
 -- the opens of a list that are on the stream
 unfoldable pub onStream : StreamNo → Open → Bool
 onStream s o = eqb (o .stream .0) (s .0)
 
 -- some open on the stream conflicts with a new one
-unfoldable pub anyConflict : StreamNo → ℕ → ℕ → List Open → Bool
-anyConflict s granted share os = any (λ o. onStream s o && conflict (o .granted) (o .share) granted share) os
+unfoldable pub anyConflict : StreamNo → Terms → List Open → Bool
+anyConflict s t os = any (λ o. onStream s o && conflict (termsOf o) t) os
 
 -- the share counts of a list of opens: uncounted ones are in none of them
 unfoldable pub isHolder : Kind → Open → Bool
@@ -63,17 +65,22 @@ isHolder k o = counted (o .granted) && holds k (o .granted)
 unfoldable pub isSharer : Kind → Open → Bool
 isSharer k o = counted (o .granted) && shares k (o .share)
 
+-- seven counts: the counted opens, and of each kind the holders and the sharers
+abbrev pub countsOver : ℕ → (Kind → ℕ) → (Kind → ℕ) → ShareCounts
+countsOver opens holders sharers =
+    record {
+      opens = opens;
+      readers = holders reading;
+      writers = holders writing;
+      deleters = holders deleting;
+      «shared_read» = sharers reading;
+      «shared_write» = sharers writing;
+      «shared_delete» = sharers deleting;
+    }
+
 unfoldable pub countsOfAll : List Open → ShareCounts
 countsOfAll os =
-    record {
-      opens = count (λ o. counted (o .granted)) os;
-      readers = count (isHolder reading) os;
-      writers = count (isHolder writing) os;
-      deleters = count (isHolder deleting) os;
-      «shared_read» = count (isSharer reading) os;
-      «shared_write» = count (isSharer writing) os;
-      «shared_delete» = count (isSharer deleting) os;
-    }
+    countsOver (count (λ o. counted (o .granted)) os) (λ k. count (isHolder k) os) (λ k. count (isSharer k) os)
 
 -- the share counts of a stream (the paper's tallies), of the opens of a list
 unfoldable pub countsOf : StreamNo → List Open → ShareCounts
@@ -92,23 +99,18 @@ sharers deleting c = c .«shared_delete»
 
 -- the share check (the paper's quick check) of a new open, from the counts: a kind is held and its sharers are fewer
 -- than the counted opens, or a kind isn't shared and its holders aren't zero
-unfoldable pub shareCheck : ShareCounts → ℕ → ℕ → Bool
-shareCheck c granted share =
-    counted granted
-    && anyKind (λ k. (holds k granted && ltb (sharers k c) (c .opens)) || (not (shares k share) && not (eqb (holders k c) 0)))
+unfoldable pub shareCheck : ShareCounts → Terms → Bool
+shareCheck c t =
+    counted (t .granted)
+    && anyKind
+    (λ k.
+    (holds k (t .granted) && ltb (sharers k c) (c .opens)) || (not (shares k (t .share)) && not (eqb (holders k c) 0)))
 
 -- the counts with one open more and with one less; an uncounted one changes none
 unfoldable pub changedBy : (ℕ → ℕ → ℕ) → Open → ShareCounts → ShareCounts
 changedBy _⊕_ o c =
-    record {
-      opens = _⊕_ (c .opens) (cond (counted (o .granted)) 1 0);
-      readers = _⊕_ (c .readers) (cond (isHolder reading o) 1 0);
-      writers = _⊕_ (c .writers) (cond (isHolder writing o) 1 0);
-      deleters = _⊕_ (c .deleters) (cond (isHolder deleting o) 1 0);
-      «shared_read» = _⊕_ (c .«shared_read») (cond (isSharer reading o) 1 0);
-      «shared_write» = _⊕_ (c .«shared_write») (cond (isSharer writing o) 1 0);
-      «shared_delete» = _⊕_ (c .«shared_delete») (cond (isSharer deleting o) 1 0);
-    }
+    countsOver (_⊕_ (c .opens) (cond (counted (o .granted)) 1 0)) (λ k. _⊕_ (holders k c) (cond (isHolder k o) 1 0))
+    (λ k. _⊕_ (sharers k c) (cond (isSharer k o) 1 0))
 
 unfoldable pub withOpen : Open → ShareCounts → ShareCounts
 withOpen = changedBy _+_

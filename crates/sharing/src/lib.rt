@@ -62,7 +62,7 @@ fn kind_conflicts(wanted: bool, shared: bool, opens: u16, holders: u16, sharers:
 
 // The share check (the paper's quick check) of a new open, from the counts of its stream.
 pub fn share_check(c: ShareCounts, granted: u32, share: u32) -> bool
-    ensures { λ r. ⌜ r ≡ shareCheck c granted share ⌝ }
+    ensures { λ r. ⌜ r ≡ shareCheck c (record { granted = granted; share = share }) ⌝ }
 {
     let reads = bits::has(granted, READS);
     let writes = bits::has(granted, WRITES);

@@ -1,20 +1,20 @@
 -- The worked cases hold, by evaluation of the definitions.
 use mathlib.Core.Path.{refl}
-use Rattle.store.specs.Evaluate.{storeRun, modelRun}
-use Rattle.store.specs.Cases.{seen, attributesOf, sevenCounts, observed, expected, Hold, workedCases, furtherCases, stepCases, statusAfter, StepsHold, namesWith, statusOf, limited, LimitsHold}
+use Rattle.store.specs.Evaluate.{computes, storeRun, modelRun}
+use Rattle.store.specs.Cases.{attributesOf, sevenCounts, observed, expected, Hold, workedCases, furtherCases, stepCases, statusAfter, StepsHold, namesWith, statusOf, limited, LimitsHold}
 
 pub worked-cases : Hold workedCases
-unfolding storeRun modelRun seen attributesOf sevenCounts observed expected
+unfolding computes storeRun modelRun attributesOf sevenCounts observed expected
 worked-cases = refl
 
 pub further-cases : Hold furtherCases
-unfolding storeRun modelRun seen attributesOf sevenCounts observed expected
+unfolding computes storeRun modelRun attributesOf sevenCounts observed expected
 further-cases = refl
 
 pub step-cases : StepsHold
-unfolding storeRun modelRun statusAfter
+unfolding computes modelRun statusAfter
 step-cases = refl
 
 pub limit-cases : LimitsHold
-unfolding storeRun namesWith statusOf limited
+unfolding computes namesWith statusOf limited
 limit-cases = refl

@@ -1,7 +1,7 @@
 -- Demand 3 (specs/Sequences.antt has the statement, Theorem.antt the proof), from the parts up:
--- what the steps of an open leave of a request and find in consistent names (Facts to Prepared), what an accepted open
--- changes (Changes), how the opens and the share counts follow (Opens), that tables and model answer the same questions
--- alike (Views), what a decision says (Completed, Statuses), and each kind of call (Steps, Violation).
+-- how the steps of an open before the sharing check end in a consistent namespace (Facts to Prepared), what an accepted
+-- open changes (Changes), how the opens and the share counts follow (Opens), that tables and model answer the same
+-- questions alike (Views), what a decision says (Completed), and each kind of call (Steps, Violation).
 pub mod Facts
 pub mod Located
 pub mod Granted
@@ -11,7 +11,6 @@ pub mod Changes
 pub mod Opens
 pub mod Views
 pub mod Completed
-pub mod Statuses
 pub mod Steps
 pub mod Violation
 pub mod Theorem

@@ -2,34 +2,22 @@
 use Prim.Native.Nat.{ℕ}
 use mathlib.Core.Bool.{Bool}
 use mathlib.Core.List.{List, [], _∷_}
+use Rattle.records.specs.Numbers.{Reply}
+use Rattle.records.specs.State.{Tables, Step}
 use Rattle.records.specs.declared.Handle.{Handle}
-use Rattle.records.specs.declared.OpenTable.{OpenTable}
-use Rattle.records.specs.declared.Volume.{Volume}
 use Rattle.records.specs.declared.Request.{Request}
-use Rattle.records.specs.declared.Answer.{Answer}
-use Rattle.store.specs.Store.{openAnswer, closeAnswer, setReadOnlyAnswer}
-use Rattle.store.specs.Model.{Model, Reply, Step, modelOpen, modelClose, modelSetReadOnly}
+use Rattle.store.specs.Store.{storeOpen, storeClose, storeSetReadOnly}
+use Rattle.store.specs.Model.{Model, modelOpen, modelClose, modelSetReadOnly}
 
 pub data Call : Type 0 where
   opens : Request → List ℕ → Call
   closes : Handle → Call
   setsReadOnly : Bool → Call
 
-pub record Tables : Type 0 where
-  pub volume : Volume
-  pub opens : OpenTable
-
-unfoldable pub answered : Answer → Step Tables
-answered a =
-    record {
-      reply = record { outcome = a .outcome; granted = a .granted };
-      state = record { volume = a .volume; opens = a .opens };
-    }
-
 unfoldable pub storeStep : Tables → Call → Step Tables
-storeStep t (opens r units) = answered (openAnswer (t .volume) (t .opens) r units)
-storeStep t (closes h) = answered (closeAnswer (t .volume) (t .opens) h)
-storeStep t (setsReadOnly b) = answered (setReadOnlyAnswer (t .volume) (t .opens) b)
+storeStep t (opens r units) = storeOpen t r units
+storeStep t (closes h) = storeClose t h
+storeStep t (setsReadOnly b) = storeSetReadOnly t b
 
 unfoldable pub modelStep : Model → Call → Step Model
 modelStep m (opens r units) = modelOpen m r units

@@ -9,7 +9,8 @@ use lib.ListN.{replicate}
 use Rattle.lists.specs.Lists.{keep, padded}
 use Rattle.records.specs.Sizes.{accounts, fileNameLimit, streamNameLimit, fileSlots, linkSlots, streamSlots}
 use Rattle.records.specs.Constants.{allAccess, directory}
-use Rattle.records.specs.Numbers.{outcomeNumbers, statusNumber}
+use Rattle.records.specs.Numbers.{Seen, seen, statusNumber}
+use Rattle.records.specs.State.{Tables}
 use Rattle.records.specs.Slots.{root, zeroFile, zeroLink, fileUsed, streamUsed}
 use Rattle.records.specs.Namespace.{BareStream, zeroBare, Namespace}
 use Rattle.records.specs.Checked.{Checked, refused, passed}
@@ -20,25 +21,9 @@ use Rattle.records.specs.declared.Stream.{Stream}
 use Rattle.records.specs.declared.ShareCounts.{ShareCounts}
 use Rattle.units.specs.Units.{dataType}
 use Rattle.store.specs.Complete.{Decision, decide}
-use Rattle.store.specs.Model.{Model, Reply}
-use Rattle.store.specs.Calls.{Call, opens, closes, setsReadOnly, Tables, Run, run, storeStep, modelStep}
+use Rattle.store.specs.Model.{Model}
+use Rattle.store.specs.Calls.{Call, opens, closes, setsReadOnly, Run, run, storeStep, modelStep}
 use Rattle.store.specs.Evaluate.{storeRun, modelRun}
-
--- what a caller sees of a reply
-pub record Seen : Type 0 where
-  pub status : ℕ
-  pub action : Option ℕ
-  pub handle : ℕ
-  pub granted : ℕ
-
-unfoldable pub seen : Reply → Seen
-seen r =
-    record {
-      status = outcomeNumbers (r .outcome) .status;
-      action = outcomeNumbers (r .outcome) .action;
-      handle = outcomeNumbers (r .outcome) .handle;
-      granted = r .granted;
-    }
 
 abbrev pub refusedWith : ℕ → Seen
 refusedWith status = record { status = status; action = none; handle = 0; granted = 0 }
@@ -90,7 +75,7 @@ observed c =
       storeReplies = map seen (store .replies);
       modelReplies = map seen (model .replies);
       storeAttributes = attributesOf (store .state .volume .files);
-      modelAttributes = attributesOf (model .state .names .files);
+      modelAttributes = attributesOf (model .state .namespace .files);
       storeCounts = map sevenCounts (keep streamUsed (store .state .volume .streams));
     }
 
@@ -246,7 +231,7 @@ pub record StepCase : Type 0 where
 unfoldable pub statusAfter : StepCase → ℕ
 statusAfter c =
     let start = modelRun (replicate accounts (c .mask)) false (c .before) .state in
-    outcomeNumbers (modelStep start (c .call) .reply .outcome) .status
+    seen (modelStep start (c .call) .reply) .status
 
 abbrev pub masked : ℕ → List Call → Call → ℕ → StepCase
 masked mask before call status = record { mask = mask; before = before; call = call; status = status }
@@ -346,14 +331,14 @@ namesWith files links streams =
     }
 
 unfoldable pub statusOf : Checked Decision → ℕ
-statusOf (refused s) = statusNumber s
+statusOf (refused r) = statusNumber (r .status)
 statusOf (passed d) = 0
 
 unfoldable pub limited : LimitCase → ℕ
 limited c =
     statusOf
     (decide
-    (record { conflicts = λ s granted share. false; fileOpen = λ f. false; room = c .room; next = c .next })
+    (record { conflicts = λ s terms. false; fileOpen = λ f. false; openOf = λ h. none; room = c .room; next = c .next })
     (namesWith (c .files) (c .links) (c .streams))
     (record {
       account = 0;

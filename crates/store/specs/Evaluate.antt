@@ -1,40 +1,47 @@
--- Runs from a fresh volume, for evaluation: where a proof unfolds one of these two, every definition below it computes.
+-- Runs from a fresh volume, for evaluation: a proof that unfolds `computes` computes with every definition.
 use Prim.Native.Nat.{ℕ}
 use mathlib.Core.Bool.{Bool}
-use mathlib.Core.List.{List, []}
-use Rattle.bits.specs.Bits.{within, has, without}
-use Rattle.lists.specs.Lists.{all, allFrom, any, count, keep, pairs, firstFrom, first, firstAfter, writes, isEmpty, same, oneOf, padded}
-use Rattle.records.specs.Numbers.{statusNumber, actionNumber, outcomeNumbers}
-use Rattle.records.specs.Slots.{isUsed, isDirectory, isData, fileUsed, linkUsed, streamUsed, openUsed, maskOf}
-use Rattle.tables.specs.Tables.{fileAt, linkAt, streamAt}
-use Rattle.open_table.specs.Rows.{anyOnFile}
-use Rattle.records.specs.Namespace.{bareUsed, bareAt, bare, withCounts, namespace}
-use Rattle.records.specs.Checked.{_>>=_, _>>_, refuseIf}
-use Rattle.units.specs.Units.{upper, folded, equalUnits}
-use Rattle.names.specs.Names.{validUnit, validFileName, validStreamName}
-use Rattle.stored_names.specs.StoredNames.{units, wellStored}
-use Rattle.components.specs.Components.{startPart, split, components}
-use Rattle.paths.specs.Paths.{endsIn, leafOf, validLeaf, checkedLeaf, parseComponents, parsePath}
-use Rattle.lookup.specs.Lookup.{linkMatches, linkNumber, findLink, stepInto, descend, placeOf, locateLeaf, locate}
-use Rattle.stream_lookup.specs.StreamLookup.{streamMatches, streamNumber, findStream}
-use Rattle.access.specs.Access.{effective, need, accessFrom, accessRule, checkedAccess}
-use Rattle.sharing.specs.Sharing.{accessBits, shareBit, anyKind, holds, shares, counted, conflict, conflicting, onStream, anyConflict, isHolder, isSharer, countsOfAll, countsOf, holders, sharers, shareCheck, changedBy, withOpen, withoutOpen}
-use Rattle.consistency.specs.Relations.{validMasks, linkTo, streamOf, unnamedOf, live, parentOf, climb, reaches}
-use Rattle.consistency.specs.Test.{freeFile, sameBool, usedFile, filesTest, freeLink, usedLink, linkNamesDiffer, linksOfFile, linksTest, freeStream, usedStream, streamNamesDiffer, streamsOfFile, streamsTest, freeOpen, usedOpen, handlesDiffer, opensAgree, opensTest, sameCounts, countsTest, consistent}
-use Rattle.format.specs.Format.{freshOpens, rightLengths, rootFile, freshVolume, checkedMasks, formatAnswer, format}
+use mathlib.Core.List.{List}
+use Rattle.bits.specs.Evaluate.{computes as bits}
+use Rattle.lists.specs.Evaluate.{computes as lists}
+use Rattle.records.specs.Evaluate.{computes as records}
+use Rattle.tables.specs.Evaluate.{computes as tables}
+use Rattle.open_table.specs.Evaluate.{computes as openTable}
+use Rattle.units.specs.Evaluate.{computes as units}
+use Rattle.names.specs.Evaluate.{computes as names}
+use Rattle.stored_names.specs.Evaluate.{computes as storedNames}
+use Rattle.components.specs.Evaluate.{computes as components}
+use Rattle.paths.specs.Evaluate.{computes as paths}
+use Rattle.lookup.specs.Evaluate.{computes as lookup}
+use Rattle.stream_lookup.specs.Evaluate.{computes as streamLookup}
+use Rattle.access.specs.Evaluate.{computes as access}
+use Rattle.sharing.specs.Evaluate.{computes as sharing}
+use Rattle.consistency.specs.Evaluate.{computes as consistency}
+use Rattle.format.specs.Evaluate.{computes as format}
+use Rattle.records.specs.State.{Tables}
+use Rattle.format.specs.Format.{freshTables}
 use Rattle.store.specs.Request.{wantsDirectory, wantsFile, badParameters, badAccess, wantsBoth, writesVolume}
-use Rattle.store.specs.Prepare.{opening, grant, grantedNew, newType, attributesNew, fileNew, prepareNew, wrongType, readSharingOf, streamOr, prepareDirectory, prepareOpen, hiddenOrSystem, gained, replacing, replacement, prepareReplace, prepareStream, prepareData, prepareFound, streamName, hasColon, prepareAt, prepare}
-use Rattle.store.specs.Complete.{changed, decided, shareOf, slotOr, freeFile as freeFile′, freeLink as freeLink′, freeStream as freeStream′, withAttributes, streamNew, placeFile, placeStreams, place, nextHandle, attributeChange, complete, decide}
-use Rattle.store.specs.Store.{refusal, whenConsistent, storeView, freshStream, changedVolume, recount, rowsWithOpenAt, rowsWithOpen, volumeWithOpen, openConcluded, openAnswer, hasHandle, volumeWithoutOpen, closeConcluded, closeAnswer, volumeMarked, setReadOnlyAnswer, audit}
-use Rattle.store.specs.Model.{Model, modelRefusal, modelFormatted, modelFormat, modelView, modelOpened, modelOpen, modelClose, modelSetReadOnly}
-use Rattle.store.specs.Calls.{Call, Tables, Run, answered, storeStep, modelStep, run}
+use Rattle.store.specs.Target.{targetNew, wrongType, targetDirectory, targetData, targetFound, targetAt, target}
+use Rattle.store.specs.Prepare.{grant, grantedNew, newType, attributesNew, fileNew, admitFile, readSharingOf, admitOpen, hiddenOrSystem, gained, replacing, replacement, admitReplace, admitStream, admit, prepare}
+use Rattle.store.specs.Complete.{changed, withShareRead, shareOf, freeFile, freeLink, freeStream, withAttributes, streamNew, linkNew, placeFile, placeStreams, place, nextHandle, attributeChange, placeExisting, complete, decide, decideClose}
+use Rattle.store.specs.Store.{hasHandle, storeView, writeStreams, changedVolume, recount, stored, rowsWithOpen, volumeWithOpen, opened, rowsWithoutOpen, volumeWithoutOpen, closed, volumeMarked, whenConsistent, storeOpen, storeClose, storeSetReadOnly}
+use Rattle.store.specs.Model.{Model, freshModel, modelFormat, modelView, modelOpened, modelOpen, modelClosed, modelClose, namespaceMarked, modelSetReadOnly}
+use Rattle.store.specs.Calls.{Call, Run, storeStep, modelStep, run}
+
+unfoldable pub computes : Unit {0}
+unfolding bits lists records tables openTable units names storedNames components paths lookup streamLookup access
+    sharing consistency format wantsDirectory wantsFile badParameters badAccess wantsBoth writesVolume targetNew
+    wrongType targetDirectory targetData targetFound targetAt target grant grantedNew newType attributesNew fileNew
+    admitFile readSharingOf admitOpen hiddenOrSystem gained replacing replacement admitReplace admitStream admit
+    prepare changed withShareRead shareOf freeFile freeLink freeStream withAttributes streamNew linkNew placeFile
+    placeStreams place nextHandle attributeChange placeExisting complete decide decideClose hasHandle storeView
+    writeStreams changedVolume recount stored rowsWithOpen volumeWithOpen opened rowsWithoutOpen volumeWithoutOpen
+    closed volumeMarked whenConsistent storeOpen storeClose storeSetReadOnly freshModel modelFormat modelView
+    modelOpened modelOpen modelClosed modelClose namespaceMarked modelSetReadOnly storeStep modelStep run
+computes = tt
 
 unfoldable pub storeRun : List ℕ → Bool → List Call → Run Tables
-unfolding within has without all allFrom any count keep pairs firstFrom first firstAfter writes isEmpty same oneOf padded statusNumber actionNumber outcomeNumbers isUsed isDirectory isData fileUsed linkUsed streamUsed openUsed fileAt linkAt streamAt maskOf bareUsed bareAt bare withCounts namespace _>>=_ _>>_ refuseIf upper folded equalUnits validUnit validFileName validStreamName units wellStored startPart split components endsIn leafOf validLeaf checkedLeaf parseComponents parsePath linkMatches linkNumber findLink streamMatches streamNumber findStream stepInto descend placeOf locateLeaf locate effective need accessFrom accessRule checkedAccess accessBits shareBit anyKind holds shares counted conflict conflicting onStream anyConflict isHolder isSharer countsOfAll countsOf holders sharers shareCheck changedBy withOpen withoutOpen validMasks linkTo streamOf unnamedOf live parentOf climb reaches freeFile sameBool usedFile filesTest freeLink usedLink linkNamesDiffer linksOfFile linksTest freeStream usedStream streamNamesDiffer streamsOfFile streamsTest freeOpen usedOpen handlesDiffer opensAgree opensTest sameCounts countsTest consistent rightLengths rootFile freshVolume checkedMasks formatAnswer format wantsDirectory wantsFile badParameters badAccess wantsBoth writesVolume opening grant grantedNew newType attributesNew fileNew prepareNew wrongType readSharingOf streamOr prepareDirectory prepareOpen hiddenOrSystem gained replacing replacement prepareReplace prepareStream prepareData prepareFound streamName hasColon prepareAt prepare changed decided shareOf slotOr freeFile′ freeLink′ freeStream′ withAttributes streamNew placeFile placeStreams place nextHandle attributeChange complete decide refusal whenConsistent anyOnFile storeView freshStream changedVolume recount rowsWithOpenAt rowsWithOpen volumeWithOpen openConcluded openAnswer hasHandle volumeWithoutOpen closeConcluded closeAnswer volumeMarked setReadOnlyAnswer audit modelRefusal modelFormatted modelFormat modelView modelOpened modelOpen modelClose modelSetReadOnly answered storeStep modelStep run
-storeRun masks readOnly calls =
-    run storeStep (record { volume = freshVolume masks readOnly; opens = freshOpens }) calls
+storeRun masks readOnly calls = run storeStep (freshTables masks readOnly) calls
 
 unfoldable pub modelRun : List ℕ → Bool → List Call → Run Model
-unfolding storeRun
-modelRun masks readOnly calls =
-    run modelStep (record { names = namespace (freshVolume masks readOnly); count = 0; entries = [] }) calls
+modelRun masks readOnly calls = run modelStep (freshModel masks readOnly) calls

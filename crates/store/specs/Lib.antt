@@ -1,5 +1,6 @@
 -- In the order of document 01.
 pub mod Request
+pub mod Target
 pub mod Prepare
 pub mod Complete
 pub mod Store

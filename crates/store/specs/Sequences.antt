@@ -1,35 +1,35 @@
 -- Demand 3: the statement about every sequence of calls from a freshly formatted volume.
 use Prim.Native.Nat.{ℕ, zero, suc, _<_}
 use mathlib.Core.Path.{_≡_}
-use mathlib.Core.Bool.{Bool, true, false}
+use mathlib.Core.Bool.{Bool, true, false, not}
 use mathlib.Core.List.{List, [], _∷_}
 use mathlib.Core.Logic.{_↔_}
 use lib.Dec.{eqb}
 use lib.ListN.{length}
-use Rattle.lists.specs.Lists.{any, Permutation}
-use Rattle.records.specs.Numbers.{outcomeNumbers}
+use Rattle.lists.specs.Lists.{any, pairs, Permutation}
+use Rattle.records.specs.Numbers.{Reply, seen, statusNumber}
+use Rattle.records.specs.State.{Tables}
 use Rattle.tables.specs.Tables.{streamAt}
 use Rattle.records.specs.Namespace.{namespace}
 use Rattle.records.specs.Checked.{passed}
-use Rattle.records.specs.declared.Status.the-variants.{SharingViolation}
+use Rattle.records.specs.declared.Status.the-variants.{FileCorruptError, SharingViolation}
 use Rattle.records.specs.declared.Outcome.{Outcome}
 use Rattle.records.specs.declared.Outcome.the-variants.{Success, Done, Refused}
 use Rattle.records.specs.declared.StreamNo.{StreamNo}
-use Rattle.records.specs.declared.OpenTable.{OpenTable}
-use Rattle.records.specs.declared.Volume.{Volume}
 use Rattle.records.specs.declared.Request.{Request}
-use Rattle.sharing.specs.Sharing.{conflicting, anyConflict, countsOf, shareCheck}
+use Rattle.sharing.specs.Sharing.{anyConflict, countsOf, shareCheck}
 use Rattle.consistency.specs.Relations.{live}
-use Rattle.consistency.specs.Consistent.{Consistent, openAt}
+use Rattle.consistency.specs.Consistent.{Consistent}
+use Rattle.consistency.specs.Test.{opensAgree}
 use Rattle.format.specs.Format.{format}
 use Rattle.store.specs.Prepare.{Existing, existing, prepare}
-use Rattle.store.specs.Store.{openAnswer}
-use Rattle.store.specs.Model.{Model, Reply, modelFormat}
-use Rattle.store.specs.Calls.{Call, Tables, answered, Run, run, storeStep, modelStep}
+use Rattle.store.specs.Store.{storeOpen}
+use Rattle.store.specs.Model.{Model, modelFormat}
+use Rattle.store.specs.Calls.{Call, Run, run, storeStep, modelStep}
 
 -- the reply that the tables contradict themselves
 unfoldable pub isCorrupt : Reply → Bool
-isCorrupt r = eqb (outcomeNumbers (r .outcome) .status) 0xC0000102
+isCorrupt r = eqb (seen r .status) (statusNumber FileCorruptError)
 
 -- the handles of the accepted opens, in order
 unfoldable pub handleOf : Outcome → List ℕ → List ℕ
@@ -58,32 +58,36 @@ pub record Agree (store : Run Tables) (model : Run Model) : Type 0 where
   pub countsAreTheirs : (s : StreamNo) → s .0 < length (store .state .volume .streams)
       → streamAt (store .state .volume .streams) s .counts ≡ countsOf s (model .state .entries)
   -- all else in the tables is as in the model
-  pub sameNames : namespace (store .state .volume) ≡ model .state .names
+  pub sameNamespace : namespace (store .state .volume) ≡ model .state .namespace
   pub nextHandle : store .state .volume .«next_handle» .0 ≡ suc (model .state .count)
   -- any two on one stream pass the pair rule
-  pub noConflict : (i j : ℕ) → i < j → j < length (model .state .entries)
-      → openAt (model .state .entries) i .stream ≡ openAt (model .state .entries) j .stream
-      → conflicting (openAt (model .state .entries) i) (openAt (model .state .entries) j) ≡ false
+  pub noConflict : pairs opensAgree (model .state .entries) ≡ true
   -- for every further open that reaches the sharing check, the share check from the counts says the same as comparing it
   -- with each live open there
   pub shareCheckRight : (r : Request) (units : List ℕ) (e : Existing)
       → prepare (namespace (store .state .volume)) r units ≡ passed (existing e)
-      → shareCheck (streamAt (store .state .volume .streams) (e .stream) .counts) (e .granted) (e .share)
-      ≡ anyConflict (e .stream) (e .granted) (e .share) (model .state .entries)
+      → shareCheck (streamAt (store .state .volume .streams) (e .stream) .counts) (e .terms)
+      ≡ anyConflict (e .stream) (e .terms) (model .state .entries)
   -- and SHARING_VIOLATION comes exactly when one conflicts
   pub violationExactly : (r : Request) (units : List ℕ) (e : Existing)
       → prepare (namespace (store .state .volume)) r units ≡ passed (existing e)
-      → (openAnswer (store .state .volume) (store .state .opens) r units .outcome ≡ Refused SharingViolation)
-      ↔ (anyConflict (e .stream) (e .granted) (e .share) (model .state .entries) ≡ true)
+      → (storeOpen (store .state) r units .reply .outcome ≡ Refused SharingViolation)
+      ↔ (anyConflict (e .stream) (e .terms) (model .state .entries) ≡ true)
+  -- and never from an open that does not reach the sharing check
+  pub violationOnlyThere : (r : Request) (units : List ℕ)
+      → storeOpen (store .state) r units .reply .outcome ≡ Refused SharingViolation
+      → (e : Existing) × (prepare (namespace (store .state .volume)) r units ≡ passed (existing e))
   -- accepted opens got the handles 1, 2, 3 and so on in order
   pub handlesInOrder : issued (store .replies) ≡ numbersFrom 1 (length (issued (store .replies)))
+  -- so that none is issued twice
+  pub handlesDiffer : pairs (λ h k. not (eqb h k)) (issued (store .replies)) ≡ true
 
 -- whatever the tables and the model held before, and whatever the calls ask: if format succeeded, all of that holds
 abbrev pub EverySequence : Type 0
 EverySequence =
-    (v : Volume) (t : OpenTable) (m : Model) (masks : List ℕ) (readOnly : Bool)
-    → format v t masks readOnly .outcome ≡ Done
+    (t : Tables) (m : Model) (masks : List ℕ) (readOnly : Bool)
+    → format t masks readOnly .reply .outcome ≡ Done
     → (calls : List Call)
     → Agree
-    (run storeStep (answered (format v t masks readOnly) .state) calls)
+    (run storeStep (format t masks readOnly .state) calls)
     (run modelStep (modelFormat m masks readOnly .state) calls)

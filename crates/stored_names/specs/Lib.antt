@@ -1,1 +1,2 @@
 pub mod StoredNames
+pub mod Evaluate

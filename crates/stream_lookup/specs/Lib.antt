@@ -1,1 +1,2 @@
 pub mod StreamLookup
+pub mod Evaluate

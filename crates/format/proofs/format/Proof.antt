@@ -1,9 +1,10 @@
 -- `format::format` meets its contract: the lengths are right, so the masks decide.
 use borrow.Author.Needs.{needs}
 use borrow.Author.Tests.{not-true, not-false}
+use mathlib.Core.Path.{refl}
 use Rattle.records.specs.Checked.{refuseIf, _>>_}
-use Rattle.records.specs.declared.Outcome.the-variants.{Done}
-use Rattle.format.specs.Format.{format, formatAnswer, checkedMasks}
+use Rattle.records.specs.State.{concluded}
+use Rattle.format.specs.Format.{format, freshTables, checkedMasks}
 use Rattle.format.proofs.RightLengths.{right-lengths}
 use Rattle.format.proofs.format.Statement.{statement}
 use Rattle.format.proofs.format.Tie as tie
@@ -12,7 +13,7 @@ valid-masks-requires : tie.Need-valid-masks-requires
 valid-masks-requires c κs = search needs
 
 returns : tie.Need-returns
-unfolding format formatAnswer checkedMasks refuseIf _>>_
+unfolding format freshTables checkedMasks concluded refuseIf _>>_
 returns c =
     let m = c .before in
     let a = m .before in
@@ -21,6 +22,7 @@ returns c =
       ← m .valid-masks .ensures,
       not-true (m .valid-masks .result) (c .if1 .taken),
     )
+    (record { reply = refl; volume = refl; opens = refl })
 
 fresh-volume-requires : tie.Need-fresh-volume-requires
 fresh-volume-requires c κs = search needs
@@ -29,7 +31,7 @@ fresh-opens-requires : tie.Need-fresh-opens-requires
 fresh-opens-requires c κs = search needs
 
 returns-2 : tie.Need-returns-2
-unfolding format formatAnswer checkedMasks refuseIf _>>_
+unfolding format freshTables checkedMasks concluded refuseIf _>>_
 returns-2 c =
     let v = c .before in
     let m = v .before .before in
@@ -39,13 +41,7 @@ returns-2 c =
       ← m .valid-masks .ensures,
       not-false (m .valid-masks .result) (v .before .if1 .left),
     )
-    (λ i.
-    record {
-      outcome = Done;
-      granted = 0;
-      volume = v .fresh-volume .ensures i;
-      opens = c .fresh-opens .ensures i;
-    })
+    (record { reply = refl; volume = v .fresh-volume .ensures; opens = c .fresh-opens .ensures })
 
 pub format-spec : {M : Type 1} → statement M
 format-spec =

@@ -1,7 +1,7 @@
 -- `sharing::with_open` meets its contract: each field is the sum with what the open adds.
 use Rattle.lists.specs.Lists.{count}
 use Rattle.sharing.specs.Saturating.{withOpenUpTo}
-use Rattle.sharing.specs.Sharing.{countsOfAll, changedBy}
+use Rattle.sharing.specs.Sharing.{countsOfAll, holders, sharers, changedBy}
 use borrow.Author.Needs.{needs}
 use Rattle.sharing.proofs.with_open.Statement.{statement}
 use Rattle.sharing.proofs.with_open.Tie as tie
@@ -31,7 +31,7 @@ plus-requires-7 : tie.Need-plus-requires-7
 plus-requires-7 c κs = search needs
 
 returns : tie.Need-returns
-unfolding count countsOfAll changedBy withOpenUpTo
+unfolding count countsOfAll holders sharers changedBy withOpenUpTo
 returns c =
     rw (
       c .plus7 .ensures,

@@ -1,6 +1,6 @@
 -- `sharing::without_open` meets its contract: each field is the difference with what the open adds.
 use Rattle.lists.specs.Lists.{count}
-use Rattle.sharing.specs.Sharing.{countsOfAll, changedBy, withoutOpen}
+use Rattle.sharing.specs.Sharing.{countsOfAll, holders, sharers, changedBy, withoutOpen}
 use borrow.Author.Needs.{needs}
 use Rattle.sharing.proofs.without_open.Statement.{statement}
 use Rattle.sharing.proofs.without_open.Tie as tie
@@ -30,7 +30,7 @@ minus-requires-7 : tie.Need-minus-requires-7
 minus-requires-7 c κs = search needs
 
 returns : tie.Need-returns
-unfolding count countsOfAll changedBy withoutOpen
+unfolding count countsOfAll holders sharers changedBy withoutOpen
 returns c =
     rw (
       c .minus7 .ensures,

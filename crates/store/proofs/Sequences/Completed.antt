@@ -1,195 +1,159 @@
--- What a decision to accept an open says: consistent names after its change, an open that may join the table, a free
--- slot, and no conflict.
-use Prim.Native.Nat.{ℕ, suc, _≤_, _<_}
-use mathlib.Core.Path.{_≡_, refl, sym, _∙_, ap, subst}
-use mathlib.Core.Bool.{Bool, true, false, cond, not, _&&_}
-use mathlib.Core.List.{List, [], _∷_}
-use mathlib.Core.Option.{Option, none, some}
-use mathlib.Core.Logic.{_⊎_, inl, inr, ⊎-elim}
-use native.Mathlib.Omega.{arith}
-use lib.Bits.{bitOr, or-lt}
-use lib.Dec.{eqb, lit<}
-use lib.ListN.{length, getD}
-use borrow.Author.Tests.{not-false}
-use Rattle.lists.specs.Lists.{all, writes, firstAfter, isEmpty}
-use Rattle.lists.proofs.Tests.{and-both, not-is}
-use Rattle.lists.proofs.Find.{after-found}
-use Rattle.records.specs.Sizes.{lastHandle}
+-- How a pending open ends: refused, with SHARING_VIOLATION exactly for a conflict; or accepted, with a consistent
+-- namespace after its change, an open that may join the table, a free slot, and no conflict.
+use Prim.Native.Nat.{ℕ}
+use Rattle.lists.proofs.Tests.{not-both}
+use Rattle.lists.specs.Lists.{writes}
+use Rattle.records.proofs.Checked.{Ends, ends-bind, ends-test, ends-weaker, goes, stops}
+use Rattle.records.specs.Checked.{Refusal, _>>=_, _>>_, _>>_, passed, refuseIf}
 use Rattle.records.specs.Constants.{shareRead}
-use Rattle.records.specs.Namespace.{Namespace, BareStream, zeroBare, bareUsed, bareAt}
-use Rattle.records.specs.Checked.{Checked, refused, passed, _>>=_, _>>_, refuseIf}
-use Rattle.records.specs.declared.Status.the-variants.{AccessDenied}
+use Rattle.records.specs.Namespace.{BareStream, Namespace, bareAt, bareUsed}
+use Rattle.records.specs.Numbers.{statusNumber}
+use Rattle.records.specs.Slots.{streamUsed}
+use Rattle.records.specs.Terms.{Terms, termsOf}
 use Rattle.records.specs.declared.CreateAction.the-variants.{Created}
 use Rattle.records.specs.declared.FileNo.{FileNo}
-use Rattle.records.specs.declared.StreamNo.{StreamNo}
-use Rattle.records.specs.declared.File.{File}
-use Rattle.records.specs.declared.LinkNo.{LinkNo}
-use Rattle.records.specs.declared.Link.{Link}
+use Rattle.records.specs.declared.Handle.{Handle}
 use Rattle.records.specs.declared.Open.{Open}
-use Rattle.records.proofs.Checked.{refused≢passed, passed-same, bind-passed, then-passed, test-passed}
-use Rattle.store.specs.Prepare
-use Rattle.store.specs.Prepare.{ReadSharing, asOffered, addedIfAlone, deniedIfAlone, Existing, Creation, newStream, newFile, Pending, existing, creating}
-use Rattle.store.specs.Complete.{View, Change, changed, Decision, decided, shareOf, slotOr, freeStream, Placed, placeFile, placeStreams, place, nextHandle, attributeChange, complete}
-use Rattle.store.proofs.Sequences.Facts.{NamesConsistent, AttributesFit, CreationFits, Grantable, ExistingFits, PendingFits, StreamsKept, PlacedWell, Joins}
+use Rattle.records.specs.declared.Request.{Request}
+use Rattle.records.specs.declared.Status.the-variants.{FileCorruptError, SharingViolation}
 use Rattle.store.proofs.Sequences.Changes.Attributes.{attributes-kept}
 use Rattle.store.proofs.Sequences.Changes.Placed.{placed-well}
+use Rattle.store.proofs.Sequences.Facts.{AttributesFit, Early, ExistingFits, Grantable, Joins, NamespaceConsistent, Other, PendingFits, PlacedWell, StreamsKept}
+use Rattle.store.proofs.Sequences.Prepared.{prepare-ends}
+use Rattle.store.specs.Complete.{Decision, Placed, View, attributeChange, changed, complete, decide, newOpen, nextHandle, placeExisting, shareOf, withShareRead}
+use Rattle.store.specs.Prepare.{Existing, Pending, ReadSharing, addedIfAlone, asOffered, creating, deniedIfAlone, existing}
+use borrow.Author.Tests.{eq-eqb, not-false}
+use lib.Bits.{or-lt}
+use lib.Dec.{lit<}
+use lib.ListN.{length}
+use mathlib.Core.Bool.{Bool, false, not, true}
+use mathlib.Core.List.{List}
+use mathlib.Core.Logic.{_⊎_, inl, inr}
+use mathlib.Core.Option.{Option, none, some}
+use mathlib.Core.Path.{_∙_, _≡_, ap, refl, subst, sym}
+use native.Mathlib.Omega.{arith}
 
--- the streams that a change writes were free
-abbrev pub WrittenFree : Namespace → Change → Type 0
-WrittenFree ns c = all (λ w. not (bareUsed (bareAt (ns .streams) (w .0)))) (c .streams) ≡ true
-
--- why an accepted open conflicts with none: the check said so, of its sharing mode or of one that shares less; or its
--- stream is new
+-- why an accepted open conflicts with none: the check said so, of its terms or of terms that share less; or its stream is
+-- new
 abbrev pub Unopposed : Namespace → View → Open → Type 0
 Unopposed ns view o =
-    ((share : ℕ) × (view .conflicts (o .stream) (o .granted) share ≡ false) × ((o .share ≡ share) ⊎ (o .share ≡ bitOr share shareRead)))
+    ((t : Terms) × (view .conflicts (o .stream) t ≡ false) × ((termsOf o ≡ t) ⊎ (termsOf o ≡ withShareRead t)))
     ⊎ (bareUsed (bareAt (ns .streams) (o .stream)) ≡ false)
 
 pub record DecisionFits (ns : Namespace) (view : View) (d : Decision) : Type 0 where
-  pub after : NamesConsistent (changed (d .change) ns)
-  pub kept : StreamsKept (ns .streams) (changed (d .change) ns .streams)
-  pub writtenFree : WrittenFree ns (d .change)
-  pub joins : Joins (changed (d .change) ns .streams) (view .next) (d .newOpen)
+  pub after : NamespaceConsistent (changed (d .placed .change) ns)
+  pub kept : StreamsKept (ns .streams) (changed (d .placed .change) ns .streams)
+  pub joins : Joins (changed (d .placed .change) ns .streams) (view .next) (newOpen d)
   pub room : view .room ≡ true
-  pub unopposed : Unopposed ns view (d .newOpen)
+  pub unopposed : Unopposed ns view (newOpen d)
+
+-- what a pending open is refused with
+pub record Late (view : View) (p : Pending) (r : Refusal) : Type 0 where
+  pub notCorrupt : Other FileCorruptError r
+  pub sharing : r .status ≡ SharingViolation
+      → (e : Existing) × (p ≡ existing e) × (view .conflicts (e .stream) (e .terms) ≡ true)
+
+-- an early refusal is none for sharing
+pub not-sharing : (r : Refusal) → Early r → r .status ≡ SharingViolation → ⊥
+not-sharing r q e = not-both (eq-eqb _ _ (ap statusNumber e)) (q .1)
+
+late : (view : View) (p : Pending) (r : Refusal) → Early r → Late view p r
+late view p r q = record { notCorrupt = q .0; sharing = λ e. absurd (not-sharing r q e) }
 
 -- step 12: a free slot, and the next handle
-slot-free : (view : View) (h : ℕ) → nextHandle view ≡ passed h → (view .room ≡ true) × (h ≡ view .next)
-unfolding nextHandle
-slot-free view h e =
-    let a = test-passed _ _ _ e in
-    let b = test-passed _ _ _ (a .1) in
-    (not-false (view .room) (a .0), sym (passed-same (b .1)))
+handle-ends : (view : View) → Ends Early (λ (h : Handle). (view .room ≡ true) × (h .0 ≡ view .next)) (nextHandle view)
+unfolding nextHandle statusNumber
+handle-ends view =
+    ends-test _ _ (refl, refl) (λ a. ends-test _ _ (refl, refl) (λ b. goes (not-false (view .room) a, refl)))
 
--- step 10's sharing mode
-share-of : (rule : ReadSharing) (alone : Bool) (share s : ℕ) → shareOf rule alone share ≡ passed s → (s ≡ share) ⊎ (s ≡ bitOr share shareRead)
-unfolding shareOf
-share-of asOffered alone share s e = inl (sym (passed-same e))
-share-of addedIfAlone true share s e = inr (sym (passed-same e))
-share-of addedIfAlone false share s e = inl (sym (passed-same e))
-share-of deniedIfAlone alone share s e = inl (sym (passed-same (test-passed _ _ _ e .1)))
+-- step 10's terms
+share-ends : (rule : ReadSharing) (alone : Bool) (t : Terms)
+    → Ends Early (λ (s : Terms). (s ≡ t) ⊎ (s ≡ withShareRead t)) (shareOf rule alone t)
+unfolding shareOf statusNumber
+share-ends asOffered alone t = goes (inl refl)
+share-ends addedIfAlone true t = goes (inr refl)
+share-ends addedIfAlone false t = goes (inl refl)
+share-ends deniedIfAlone alone t = ends-test _ _ (refl, refl) (λ e. goes (inl refl))
 
-share-small : (share s : ℕ) → share ≤ 7 → (s ≡ share) ⊎ (s ≡ bitOr share shareRead) → s ≤ 7
-share-small share s l (inl e) = omega arith
-share-small share s l (inr e) = omega (arith, or-lt 3 share shareRead (omega arith) (lit< tt))
-
--- the streams that placing writes were free
-free-stream : (ns : Namespace) (n : ℕ) (s : StreamNo) → freeStream ns n ≡ passed s → not (bareUsed (bareAt (ns .streams) s)) ≡ true
-unfolding freeStream bareAt slotOr
-free-stream ns n s h =
-    let q = bind-passed _ _ h in
-    subst (λ (m : StreamNo). not (bareUsed (getD (ns .streams) (m .0) zeroBare)) ≡ true) (passed-same (q .2))
-    (go (firstAfter free n (ns .streams)) refl (q .0) (q .1))
-  where
-    free : BareStream → Bool
-    free b = not (bareUsed b)
-
-    go : (o : Option ℕ) → firstAfter free n (ns .streams) ≡ o → (m : ℕ) → slotOr o ≡ passed m
-        → not (bareUsed (getD (ns .streams) m zeroBare)) ≡ true
-    go none e m k = absurd (refused≢passed k)
-    go (some j) e m k =
-        subst (λ (i : ℕ). not (bareUsed (getD (ns .streams) i zeroBare)) ≡ true) (passed-same k)
-        (after-found free zeroBare (ns .streams) n j e .passes)
-
--- one of two, by a test
-either : {A : Type 0} (b : Bool) (x y : Checked A) {a : A} → cond b x y ≡ passed a → (x ≡ passed a) ⊎ (y ≡ passed a)
-either true x y h = inl h
-either false x y h = inr h
-
-module _ (ns : Namespace) where
-  written-free : {p q : Placed} → passed q ≡ passed p → WrittenFree ns (q .change) → WrittenFree ns (p .change)
-  written-free e h = subst (λ (x : Placed). WrittenFree ns (x .change)) (passed-same e) h
-
-  streams-free : (f : FileNo) (file : File) (l : LinkNo) (link : Link) (name : List ℕ) (s : StreamNo)
-      → freeStream ns 0 ≡ passed s → (p : Placed) → placeStreams ns f file l link name s ≡ passed p → WrittenFree ns (p .change)
-  unfolding placeStreams placeFile all
-  streams-free f file l link name s e p h =
-      ⊎-elim (λ k. written-free k (and-both (free-stream ns 0 s e) refl))
-      (λ k.
-      let t = bind-passed _ _ k in
-      written-free (t .2) (and-both (free-stream ns 0 s e) (and-both (free-stream ns (suc (s .0)) (t .0) (t .1)) refl)))
-      (either (isEmpty name) _ _ h)
-
-  placed-free : (c : Creation) (p : Placed) → place ns c ≡ passed p → WrittenFree ns (p .change)
-  unfolding place all
-  placed-free (newStream f a name) p h =
-      let s = bind-passed _ _ h in
-      written-free (s .2) (and-both (free-stream ns 0 (s .0) (s .1)) refl)
-  placed-free (newFile dir name stream file) p h =
-      let f = bind-passed _ _ h in
-      let l = bind-passed _ _ (f .2) in
-      let s = bind-passed _ _ (l .2) in
-      streams-free (f .0) file (l .0) _ stream (s .0) (s .1) p (s .2)
+grantable-still : (t s : Terms) → Grantable t → (s ≡ t) ⊎ (s ≡ withShareRead t) → Grantable s
+unfolding withShareRead
+grantable-still t s g (inl e) = subst Grantable (sym e) g
+grantable-still t s g (inr e) =
+    subst Grantable (sym e)
+    (record {
+      nonzero = g .nonzero;
+      grantedWithin = g .grantedWithin;
+      shareAtMost = omega (arith, or-lt 3 (t .share) shareRead (omega (arith, g .shareAtMost)) (lit< tt));
+    })
 
 -- what a change of attributes alone leaves
-module _ (ns : Namespace) (f : FileNo) (ok : NamesConsistent ns) where
+module _ (ns : Namespace) (f : FileNo) (ok : NamespaceConsistent ns) where
   attributes-alone : (o : Option ℕ) → ((a : ℕ) → o ≡ some a → AttributesFit ns f a)
-      → NamesConsistent (changed (attributeChange ns f o) ns)
-      × (changed (attributeChange ns f o) ns .streams ≡ ns .streams)
-      × WrittenFree ns (attributeChange ns f o)
-  unfolding changed attributeChange writes all
-  attributes-alone none fits = (ok, refl, refl)
-  attributes-alone (some a) fits = (attributes-kept ns f a ok (fits a refl), refl, refl)
+      → NamespaceConsistent (changed (attributeChange ns f o) ns) × (changed (attributeChange ns f o) ns .streams ≡ ns .streams)
+  unfolding changed attributeChange writes
+  attributes-alone none fits = (ok, refl)
+  attributes-alone (some a) fits = (attributes-kept ns f a ok (fits a refl), refl)
 
--- an accepted open of a stream that is there
-accepted : (ns : Namespace) (view : View) (e : Existing) (share handle : ℕ) → NamesConsistent ns → ExistingFits ns e
-    → view .conflicts (e .stream) (e .granted) (e .share) ≡ false
-    → (share ≡ e .share) ⊎ (share ≡ bitOr (e .share) shareRead) → view .room ≡ true → handle ≡ view .next
-    → DecisionFits ns view
-    (decided (e .action) (attributeChange ns (e .file) (e .attributes)) (e .file) (e .stream) (e .granted) share handle)
-unfolding decided
-accepted ns view e share handle ok fits free s room next =
-    let q = attributes-alone ns (e .file) ok (e .attributes) (fits .attributes) in
-    let at : List BareStream → BareStream = λ ss. bareAt ss (e .stream) in
-    record {
-      after = q .0;
-      kept = record { sameLength = ap length (q .1); usedKept = λ t u. ap (λ (ss : List BareStream). bareAt ss t) (q .1) };
-      writtenFree = q .2;
-      joins =
-          record {
-            grantable =
-                record {
-                  nonzero = fits .grantable .nonzero;
-                  grantedWithin = fits .grantable .grantedWithin;
-                  shareAtMost = share-small (e .share) share (fits .grantable .shareAtMost) s;
-                };
-            streamUsed = ap (λ (ss : List BareStream). bareUsed (at ss)) (q .1) ∙ fits .streamUsed;
-            streamFile = sym (ap (λ (ss : List BareStream). at ss .file) (q .1) ∙ fits .streamFile);
-            handle = next;
-          };
-      room = room;
-      unopposed = inl (e .share, free, s);
-    }
+module _ (view : View) (ns : Namespace) (ok : NamespaceConsistent ns) (room : view .room ≡ true) (h : Handle) (next : h .0 ≡ view .next) where
+  -- an accepted open of a stream that is there
+  accepted : (e : Existing) → ExistingFits ns e → view .conflicts (e .stream) (e .terms) ≡ false
+      → (t : Terms) → (t ≡ e .terms) ⊎ (t ≡ withShareRead (e .terms))
+      → DecisionFits ns view (record { action = e .action; placed = placeExisting ns e; terms = t; handle = h })
+  unfolding placeExisting
+  accepted e fits free t s =
+      let q = attributes-alone ns (e .file) ok (e .attributes) (fits .attributes) in
+      let at : List BareStream → BareStream = λ ss. bareAt ss (e .stream) in
+      record {
+        after = q .0;
+        kept = record { sameLength = ap length (q .1); usedKept = λ n u. ap (λ (ss : List BareStream). bareAt ss n) (q .1) };
+        joins =
+            record {
+              grantable = grantable-still (e .terms) t (fits .grantable) s;
+              streamUsed = ap (λ (ss : List BareStream). bareUsed (at ss)) (q .1) ∙ fits .streamUsed;
+              streamFile = sym (ap (λ (ss : List BareStream). at ss .file) (q .1) ∙ fits .streamFile);
+              handle = next;
+            };
+        room = room;
+        unopposed = inl (e .terms, free, s);
+      }
 
--- an accepted open of what it creates
-created : (ns : Namespace) (view : View) (c : Creation) (granted share handle : ℕ) (p : Placed) → Grantable granted share
-    → PlacedWell ns p → WrittenFree ns (p .change) → view .room ≡ true → handle ≡ view .next
-    → DecisionFits ns view (decided Created (p .change) (p .file) (p .stream) granted share handle)
-unfolding decided
-created ns view c granted share handle p g well free room next =
-    record {
-      after = well .after;
-      kept = well .kept;
-      writtenFree = free;
-      joins = record { grantable = g; streamUsed = well .streamUsed; streamFile = sym (well .streamFile); handle = next };
-      room = room;
-      unopposed = inr (well .wasFree);
-    }
+  -- an accepted open of what it creates
+  created : (p : Placed) → PlacedWell ns p → (t : Terms) → Grantable t
+      → DecisionFits ns view (record { action = Created; placed = p; terms = t; handle = h })
+  created p well t g =
+      record {
+        after = well .after;
+        kept = well .kept;
+        joins = record { grantable = g; streamUsed = well .streamUsed; streamFile = sym (well .streamFile); handle = next };
+        room = room;
+        unopposed = inr (well .wasFree);
+      }
 
-pub completed : (ns : Namespace) (view : View) (p : Pending) (d : Decision) → NamesConsistent ns → PendingFits ns p
-    → complete view ns p ≡ passed d → DecisionFits ns view d
-unfolding complete
-completed ns view (existing e) d ok fits h =
-    let a = test-passed _ _ _ h in
-    let s = bind-passed _ _ (a .1) in
-    let n = bind-passed _ _ (s .2) in
-    let q = slot-free view (n .0) (n .1) in
-    subst (DecisionFits ns view) (passed-same (n .2))
-    (accepted ns view e (s .0) (n .0) ok fits (a .0) (share-of (e .readSharing) _ (e .share) (s .0) (s .1)) (q .0) (q .1))
-completed ns view (creating c granted share) d ok fits h =
-    let p = bind-passed _ _ h in
-    let n = bind-passed _ _ (p .2) in
-    let q = slot-free view (n .0) (n .1) in
-    subst (DecisionFits ns view) (passed-same (n .2))
-    (created ns view c granted share (n .0) (p .0) (fits .1) (placed-well ns ok c (fits .0) (p .0) (p .1))
-    (placed-free ns c (p .0) (p .1)) (q .0) (q .1))
+pub complete-ends : (view : View) (ns : Namespace) (p : Pending) → NamespaceConsistent ns → PendingFits ns p
+    → Ends (Late view p) (DecisionFits ns view) (complete view ns p)
+unfolding complete statusNumber refuseIf _>>_
+complete-ends view ns (existing e) ok fits = go (view .conflicts (e .stream) (e .terms)) refl
+  where
+    go : (b : Bool) → view .conflicts (e .stream) (e .terms) ≡ b
+        → Ends (Late view (existing e)) (DecisionFits ns view)
+        (refuseIf b SharingViolation
+        >> (shareOf (e .readSharing) (not (view .fileOpen (e .file))) (e .terms)
+        >>= (λ t. nextHandle view
+        >>= (λ h. passed (record { action = e .action; placed = placeExisting ns e; terms = t; handle = h })))))
+    go true c = stops (record { notCorrupt = refl; sharing = λ s. (e, refl, c) })
+    go false c =
+        ends-weaker (late view (existing e)) (λ d q. q)
+        (ends-bind (share-ends (e .readSharing) _ (e .terms))
+        (λ t s. ends-bind (handle-ends view) (λ h q. goes (accepted view ns ok (q .0) h (q .1) e fits c t s))))
+complete-ends view ns (creating c t) ok fits =
+    ends-weaker (late view (creating c t)) (λ d q. q)
+    (ends-bind (placed-well ns ok c (fits .0))
+    (λ p well. ends-bind (handle-ends view) (λ h q. goes (created view ns ok (q .0) h (q .1) p well t (fits .1)))))
+
+-- the twelve steps
+pub decide-ends : (view : View) (ns : Namespace) (r : Request) (units : List ℕ) → NamespaceConsistent ns
+    → Ends (Other FileCorruptError) (DecisionFits ns view) (decide view ns r units)
+unfolding decide
+decide-ends view ns r units ok =
+    ends-bind (ends-weaker (λ q e. e .0) (λ p f. f) (prepare-ends ns r units ok))
+    (λ p f. ends-weaker (λ q l. l .notCorrupt) (λ d g. g) (complete-ends view ns p ok f))

@@ -1,4 +1,4 @@
--- The facts that pass between the parts of the proof: what consistent names are, what a pending open may rely on, and
+-- The facts that pass between the parts of the proof: what a consistent namespace is, what a pending open may rely on, and
 -- what its placing leaves.
 use Prim.Native.Nat.{ℕ, suc, _≤_, _<_}
 use mathlib.Core.Path.{_≡_}
@@ -13,7 +13,14 @@ use Rattle.records.specs.Sizes.{fileNameLimit, streamNameLimit, streamSlots}
 use Rattle.records.specs.Constants.{allAccess, directory}
 use Rattle.records.specs.Slots.{isData, isDirectory, fileUsed}
 use Rattle.tables.specs.Tables.{fileAt}
-use Rattle.records.specs.Namespace.{Namespace, BareStream, bareUsed, bareAt}
+use Rattle.records.specs.Namespace.{Namespace, BareStream, bareUsed, bareAt, namespace}
+use lib.Dec.{eqb}
+use Rattle.records.specs.Numbers.{statusNumber}
+use Rattle.records.specs.Terms.{Terms, termsOf}
+use Rattle.records.specs.Checked.{Refusal}
+use Rattle.records.specs.declared.Status.{Status}
+use Rattle.records.specs.declared.Status.the-variants.{FileCorruptError, SharingViolation}
+use Rattle.paths.specs.Paths.{Leaf}
 use Rattle.records.specs.declared.FileNo.{FileNo}
 use Rattle.records.specs.declared.StreamNo.{StreamNo}
 use Rattle.records.specs.declared.File.{File}
@@ -22,12 +29,14 @@ use Rattle.names.specs.Names.{validFileName, validStreamName}
 use Rattle.lookup.specs.Lookup.{linkMatches}
 use Rattle.stream_lookup.specs.StreamLookup.{streamMatches}
 use Rattle.consistency.specs.Relations.{validMasks}
-use Rattle.consistency.specs.Consistent.{FilesConsistent, LinksConsistent, StreamsConsistent}
+use Rattle.consistency.specs.Consistent.{FilesConsistent, LinksConsistent, StreamsConsistent, Consistent}
 use Rattle.store.specs.Prepare.{Existing, Creation, newStream, newFile, Pending, existing, creating}
 use Rattle.store.specs.Complete.{Placed, changed}
+use Rattle.records.specs.declared.Volume.{Volume}
+use Rattle.records.specs.declared.OpenTable.{OpenTable}
 
 -- the groups of consistency that do not look at the opens
-pub record NamesConsistent (ns : Namespace) : Type 0 where
+pub record NamespaceConsistent (ns : Namespace) : Type 0 where
   pub files : FilesConsistent (ns .files)
   pub links : LinksConsistent (ns .files) (ns .links)
   pub streams : StreamsConsistent (ns .files) (ns .streams)
@@ -46,47 +55,55 @@ pub record StreamFits (ns : Namespace) (f : FileNo) (a : ℕ) (name : List ℕ) 
   pub nameNew : any (streamMatches fold f name) (ns .streams) ≡ false
 
 -- a file that a directory may gain
-pub record FileFits (ns : Namespace) (dir : FileNo) (name stream : List ℕ) (file : File) : Type 0 where
+pub record FileFits (ns : Namespace) (dir : FileNo) (leaf : Leaf) (file : File) : Type 0 where
   pub parent : isDirectory (fileAt (ns .files) dir .«file_type») ≡ true
-  pub nameValid : validFileName fileNameLimit name ≡ true
+  pub nameValid : validFileName fileNameLimit (leaf .file) ≡ true
   pub fold : Bool
-  pub nameNew : any (linkMatches fold dir name) (ns .links) ≡ false
-  pub streamValid : validStreamName streamNameLimit stream ≡ true
+  pub nameNew : any (linkMatches fold dir (leaf .file)) (ns .links) ≡ false
+  pub streamValid : validStreamName streamNameLimit (leaf .stream) ≡ true
   pub used : fileUsed file ≡ true
   pub attributesWithin : within (file .attributes) 0x3137 ≡ true
   pub directoryBit : has (file .attributes) directory ≡ isDirectory (file .«file_type»)
   pub masksValid : validMasks (file .masks) ≡ true
-  pub directoryUnnamed : isDirectory (file .«file_type») ≡ true → stream ≡ []
+  pub directoryUnnamed : isDirectory (file .«file_type») ≡ true → leaf .stream ≡ []
 
 abbrev pub CreationFits : Namespace → Creation → Type 0
 CreationFits ns (newStream f a name) = StreamFits ns f a name
-CreationFits ns (newFile dir name stream file) = FileFits ns dir name stream file
+CreationFits ns (newFile dir leaf file) = FileFits ns dir leaf file
 
--- access and sharing mode that an open may be stored with
-pub record Grantable (granted share : ℕ) : Type 0 where
-  pub nonzero : granted ≢ 0
-  pub grantedWithin : within granted allAccess ≡ true
-  pub shareAtMost : share ≤ 7
+-- terms that an open may be stored with
+pub record Grantable (t : Terms) : Type 0 where
+  pub nonzero : t .granted ≢ 0
+  pub grantedWithin : within (t .granted) allAccess ≡ true
+  pub shareAtMost : t .share ≤ 7
 
 -- an open of a stream that is there
 pub record ExistingFits (ns : Namespace) (e : Existing) : Type 0 where
-  pub grantable : Grantable (e .granted) (e .share)
+  pub grantable : Grantable (e .terms)
   pub streamUsed : bareUsed (bareAt (ns .streams) (e .stream)) ≡ true
   pub streamFile : bareAt (ns .streams) (e .stream) .file ≡ e .file
   pub attributes : (a : ℕ) → e .attributes ≡ some a → AttributesFit ns (e .file) a
 
 abbrev pub PendingFits : Namespace → Pending → Type 0
 PendingFits ns (existing e) = ExistingFits ns e
-PendingFits ns (creating c granted share) = CreationFits ns c × Grantable granted share
+PendingFits ns (creating c terms) = CreationFits ns c × Grantable terms
 
--- how the streams of the names before a change stand in those after it
+-- a refusal with another status
+abbrev pub Other : Status → Refusal → Type 0
+Other s r = eqb (statusNumber (r .status)) (statusNumber s) ≡ false
+
+-- what the steps before the sharing check never refuse with, on a consistent namespace
+abbrev pub Early : Refusal → Type 0
+Early r = Other FileCorruptError r × Other SharingViolation r
+
+-- how the streams before a change stand in those after it
 pub record StreamsKept (before after : List BareStream) : Type 0 where
   pub sameLength : length after ≡ length before
   pub usedKept : (s : StreamNo) → bareUsed (bareAt before s) ≡ true → bareAt after s ≡ bareAt before s
 
--- records placed: consistent names again, and the open's stream is new
+-- records placed: a consistent namespace again, and the open's stream is new
 pub record PlacedWell (ns : Namespace) (p : Placed) : Type 0 where
-  pub after : NamesConsistent (changed (p .change) ns)
+  pub after : NamespaceConsistent (changed (p .change) ns)
   pub kept : StreamsKept (ns .streams) (changed (p .change) ns .streams)
   pub wasFree : bareUsed (bareAt (ns .streams) (p .stream)) ≡ false
   pub streamUsed : bareUsed (bareAt (changed (p .change) ns .streams) (p .stream)) ≡ true
@@ -94,7 +111,12 @@ pub record PlacedWell (ns : Namespace) (p : Placed) : Type 0 where
 
 -- an open that may join the opens of a table
 pub record Joins (ss : List BareStream) (next : ℕ) (o : Open) : Type 0 where
-  pub grantable : Grantable (o .granted) (o .share)
+  pub grantable : Grantable (termsOf o)
   pub streamUsed : bareUsed (bareAt ss (o .stream)) ≡ true
   pub streamFile : o .file ≡ bareAt ss (o .stream) .file
   pub handle : o .handle .0 ≡ next
+
+-- the groups of consistency that do not look at the opens, of consistent tables
+pub namespace-of : {v : Volume} {t : OpenTable} → Consistent v t → NamespaceConsistent (namespace v)
+unfolding namespace
+namespace-of c = record { files = c .files; links = c .links; streams = c .streams }

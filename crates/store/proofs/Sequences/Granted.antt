@@ -1,11 +1,10 @@
 -- What the access rule grants on a used file may be stored: it is not zero, and lies within 0x1F01FF.
 use Prim.Native.Nat.{ℕ}
-use mathlib.Core.Path.{_≡_, refl, sym, _∙_, ap, subst}
+use mathlib.Core.Path.{_≡_, refl, sym, _∙_}
 use mathlib.Core.Bool.{Bool, true, false, cond, not, _&&_, _||_}
-use mathlib.Core.List.{List}
 use mathlib.Core.Logic.{_≢_}
 use lib.Dec.{eqb}
-use lib.ListN.{length, getD}
+use lib.ListN.{length}
 use borrow.Author.Tests.{eqb-false, not-false}
 use Rattle.bits.specs.Bits.{within, has, without}
 use Rattle.bits.proofs.Sets.{within-trans, within-less, within-zero, within-self, without-none}
@@ -14,14 +13,21 @@ use Rattle.lists.proofs.Tests.{and-right, or-neither}
 use Rattle.lists.proofs.All.{all-slots}
 use Rattle.records.specs.Sizes.{accounts}
 use Rattle.records.specs.Constants.{allAccess, readOnly, maximumAllowed}
-use Rattle.records.specs.Slots.{isData, maskOf}
-use Rattle.records.specs.Checked.{Checked, refused, passed}
+use Rattle.records.specs.Numbers.{statusNumber}
+use Rattle.records.specs.Slots.{isData, maskOf, fileUsed}
+use Rattle.tables.specs.Tables.{fileAt}
+use Rattle.records.specs.Namespace.{Namespace}
+use Rattle.records.specs.declared.FileNo.{FileNo}
 use Rattle.records.specs.declared.File.{File}
-use Rattle.records.proofs.Checked.{refused≢passed, passed-same}
+use Rattle.records.specs.declared.Request.{Request}
+use Rattle.records.proofs.Checked.{Ends, stops, goes, ends-bind}
 use Rattle.access.specs.Access.{effective, need, accessFrom, accessRule, checkedAccess}
 use Rattle.access.specs.declared.Access.{Access}
 use Rattle.access.specs.declared.Access.the-variants.{Granted, Denied}
 use Rattle.consistency.specs.Relations.{validMasks}
+use Rattle.store.specs.Prepare.{grant}
+use Rattle.store.proofs.Sequences.Facts.{NamespaceConsistent, Grantable, Early}
+use Rattle.store.proofs.Sequences.Requested.{RequestFits}
 
 mask-within : (f : File) (account : ℕ) → validMasks (f .masks) ≡ true → within (maskOf f account) allAccess ≡ true
 unfolding validMasks maskOf
@@ -41,29 +47,37 @@ effective-within f account h = go (isData (f .«file_type») && has (f .attribut
     go false = mask-within f account h
 
 -- the rule over an effective mask
-granted-from : (mask access g : ℕ) → access ≢ 0 → checkedAccess (accessFrom mask access) ≡ passed g
-    → (g ≢ 0) × (within g mask ≡ true)
-unfolding accessFrom checkedAccess need
-granted-from mask access g nz h = go (not (within (need access) mask) || eqb mask 0) refl h
+from-ends : (mask access : ℕ) → access ≢ 0
+    → Ends Early (λ g. (g ≢ 0) × (within g mask ≡ true)) (checkedAccess (accessFrom mask access))
+unfolding accessFrom checkedAccess need statusNumber
+from-ends mask access nz = go (not (within (need access) mask) || eqb mask 0) refl
   where
     kept : (b : Bool) → has access maximumAllowed ≡ b → within (need access) mask ≡ true → mask ≢ 0
-        → cond b mask (need access) ≡ g → (g ≢ 0) × (within g mask ≡ true)
-    kept true e w m k = (λ z. m (k ∙ z), subst (λ (x : ℕ). within x mask ≡ true) k (within-self mask))
-    kept false e w m k =
-        (λ z. nz (sym (without-none access maximumAllowed e) ∙ k ∙ z), subst (λ (x : ℕ). within x mask ≡ true) k w)
+        → (cond b mask (need access) ≢ 0) × (within (cond b mask (need access)) mask ≡ true)
+    kept true e w m = (m, within-self mask)
+    kept false e w m = (λ z. nz (sym (without-none access maximumAllowed e) ∙ z), w)
 
     go : (b : Bool) → (not (within (need access) mask) || eqb mask 0) ≡ b
-        → checkedAccess (cond b Denied (Granted (cond (has access maximumAllowed) mask (need access)))) ≡ passed g
-        → (g ≢ 0) × (within g mask ≡ true)
-    go true e k = absurd (refused≢passed k)
-    go false e k =
+        → Ends Early (λ g. (g ≢ 0) × (within g mask ≡ true))
+        (checkedAccess (cond b Denied (Granted (cond (has access maximumAllowed) mask (need access)))))
+    go true e = stops (refl, refl)
+    go false e =
         let n = or-neither (not (within (need access) mask)) (eqb mask 0) e in
-        kept (has access maximumAllowed) refl (not-false (within (need access) mask) (n .0)) (eqb-false mask 0 (n .1))
-        (passed-same k)
+        goes
+        (kept (has access maximumAllowed) refl (not-false (within (need access) mask) (n .0)) (eqb-false mask 0 (n .1)))
 
-pub granted-fits : (f : File) (account access g : ℕ) → validMasks (f .masks) ≡ true → access ≢ 0
-    → checkedAccess (accessRule f account access) ≡ passed g → (g ≢ 0) × (within g allAccess ≡ true)
-unfolding accessRule
-granted-fits f account access g v nz h =
-    let q = granted-from (effective f account) access g nz h in
-    (q .0, within-trans g (effective f account) allAccess (q .1) (effective-within f account v))
+pub grant-ends : (ns : Namespace) (r : Request) (f : FileNo) (access : ℕ) → NamespaceConsistent ns → RequestFits r
+    → fileUsed (fileAt (ns .files) f) ≡ true → access ≢ 0 → Ends Early Grantable (grant ns r f access)
+unfolding grant accessRule
+grant-ends ns r f access ok fits used nz =
+    let mask = effective (fileAt (ns .files) f) (r .account) in
+    ends-bind (from-ends mask access nz)
+    (λ g q.
+    goes
+    (record {
+      nonzero = q .0;
+      grantedWithin =
+          within-trans g mask allAccess (q .1)
+          (effective-within (fileAt (ns .files) f) (r .account) (ok .files .masksWithin f used));
+      shareAtMost = fits .shareAtMost;
+    }))

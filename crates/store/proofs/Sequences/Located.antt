@@ -1,63 +1,50 @@
--- Where a path leads in consistent names: to a used file, or to a directory without the name.
+-- What the searches find in a consistent namespace: where a path leads, to a used file or to a directory without the
+-- name, and which stream of a file a name is.
 use Prim.Native.Nat.{ℕ, zero, suc}
-use mathlib.Core.Path.{_≡_, refl, sym, _∙_, ap, subst}
-use mathlib.Core.Bool.{Bool, true, false, cond, not, _&&_, false≢true}
+use native.Mathlib.Omega.{arith}
+use mathlib.Core.Path.{_≡_, refl, sym, _∙_, ap}
+use mathlib.Core.Bool.{Bool, true, false, not, _&&_, false≢true}
 use mathlib.Core.List.{List, [], _∷_, map}
-use mathlib.Core.Option.{Option, none, some, Option·some-injective}
+use mathlib.Core.Option.{Option, none, some}
 use lib.Dec.{eqb, eqb·suc-zero}
 use lib.ListN.{getD}
+use borrow.Author.Tests.{eqb-true}
 use Rattle.lists.specs.Lists.{any, first, isEmpty, same}
 use Rattle.lists.proofs.Tests.{and-left, and-right}
-use Rattle.lists.proofs.Find.{Found, first-found, first-none}
+use Rattle.lists.proofs.Find.{first-found, first-none}
+use Rattle.lists.proofs.Keep.{any-same, any-count}
 use Rattle.records.specs.Sizes.{fileNameLimit}
+use Rattle.records.specs.Numbers.{statusNumber}
 use Rattle.records.specs.Slots.{root, isDirectory, zeroLink, fileUsed, linkUsed}
 use Rattle.tables.specs.Tables.{fileAt, linkAt}
-use Rattle.records.specs.Namespace.{Namespace}
-use Rattle.records.specs.Checked.{Checked, refused, passed, _>>=_}
-use Rattle.records.specs.declared.Status.the-variants.{ObjectPathNotFound}
+use Rattle.records.specs.Namespace.{Namespace, BareStream, zeroBare, bareUsed, bareAt}
+use Rattle.records.specs.Checked.{passed, _>>=_, someOr}
+use Rattle.records.specs.declared.Status.the-variants.{FileCorruptError}
 use Rattle.records.specs.declared.FileNo.{FileNo}
 use Rattle.records.specs.declared.LinkNo.{LinkNo}
-use Rattle.records.specs.declared.Link.{Link}
-use Rattle.records.proofs.Checked.{refused≢passed, passed-same, bind-passed}
+use Rattle.records.specs.declared.StreamNo.{StreamNo}
+use Rattle.records.proofs.Checked.{Ends, stops, goes, ends-bind, ends-cond}
 use Rattle.units.specs.Units.{folded, equalUnits}
 use Rattle.names.specs.Names.{validFileName}
 use Rattle.stored_names.specs.StoredNames.{units}
 use Rattle.paths.specs.Paths.{Leaf, Path}
 use Rattle.paths.proofs.Parsed.{LeafFits}
-use Rattle.consistency.proofs.Slots.{directory-used}
-use Rattle.lookup.specs.Lookup.{linkMatches, linkNumber, findLink, stepInto, descend, Place, found, missing, placeOf, locateLeaf, locate}
-use Rattle.store.proofs.Sequences.Facts.{NamesConsistent}
+use Rattle.consistency.specs.Relations.{streamOf, unnamedOf}
+use Rattle.consistency.proofs.Slots.{directory-used, same-file}
+use Rattle.lookup.specs.Lookup.{linkMatches, linkNumber, findLink, stepInto, descend, Place, found, missing, foundRoot, placeIn, locateLeaf, locate}
+use Rattle.stream_lookup.specs.StreamLookup.{streamMatches, streamNumber, findStream}
+use Rattle.store.proofs.Sequences.Facts.{NamespaceConsistent, Early}
 
-abbrev pub PlaceFits : Namespace → Bool → Option Leaf → Place → Type 0
-PlaceFits ns fold leaf (found f) = fileUsed (fileAt (ns .files) f) ≡ true
-PlaceFits ns fold leaf (missing dir name stream) =
-    (isDirectory (fileAt (ns .files) dir .«file_type») ≡ true)
-    × ((l : Leaf) × (leaf ≡ some l) × (name ≡ l .file) × (stream ≡ l .stream))
-    × (any (linkMatches fold dir name) (ns .links) ≡ false)
+-- a name that a directory may gain
+pub record MissingFits (ns : Namespace) (fold wantsDirectory : Bool) (dir : FileNo) (leaf : Leaf) : Type 0 where
+  pub parent : isDirectory (fileAt (ns .files) dir .«file_type») ≡ true
+  pub leafFits : LeafFits wantsDirectory leaf
+  pub nameValid : validFileName fileNameLimit (leaf .file) ≡ true
+  pub nameNew : any (linkMatches fold dir (leaf .file)) (ns .links) ≡ false
 
--- the components before the last lead from a directory to a directory
-stepped : (ns : Namespace) (o : Option LinkNo) (f : FileNo) → stepInto ns o ≡ passed f
-    → isDirectory (fileAt (ns .files) f .«file_type») ≡ true
-unfolding stepInto
-stepped ns none f h = absurd (refused≢passed h)
-stepped ns (some l) f h = go (isDirectory (fileAt (ns .files) g .«file_type»)) refl h
-  where
-    g : FileNo
-    g = linkAt (ns .links) l .file
-
-    go : (b : Bool) → isDirectory (fileAt (ns .files) g .«file_type») ≡ b
-        → cond b (passed g) (refused ObjectPathNotFound) ≡ passed f → isDirectory (fileAt (ns .files) f .«file_type») ≡ true
-    go true e k = subst (λ (n : FileNo). isDirectory (fileAt (ns .files) n .«file_type») ≡ true) (passed-same k) e
-    go false e k = absurd (refused≢passed k)
-
-descended : (ns : Namespace) (fold : Bool) (dir : FileNo) (names : List (List ℕ)) (d : FileNo)
-    → isDirectory (fileAt (ns .files) dir .«file_type») ≡ true → descend ns fold dir names ≡ passed d
-    → isDirectory (fileAt (ns .files) d .«file_type») ≡ true
-unfolding descend
-descended ns fold dir [] d i h = subst (λ (n : FileNo). isDirectory (fileAt (ns .files) n .«file_type») ≡ true) (passed-same h) i
-descended ns fold dir (name ∷ names) d i h =
-    let q = bind-passed (stepInto ns (findLink ns fold dir name)) (λ next. descend ns fold next names) h in
-    descended ns fold (q .0) names d (stepped ns (findLink ns fold dir name) (q .0) (q .1)) (q .2)
+abbrev pub PlaceFits : Namespace → Bool → Bool → Place → Type 0
+PlaceFits ns fold wantsDirectory (found at) = fileUsed (fileAt (ns .files) (at .file)) ≡ true
+PlaceFits ns fold wantsDirectory (missing dir leaf) = MissingFits ns fold wantsDirectory dir leaf
 
 -- a link whose name matches one that is not empty is used
 matching-used : (fold : Bool) (stored name : List ℕ) → isEmpty name ≡ false → equalUnits fold (units stored) name ≡ true
@@ -69,45 +56,108 @@ matching-used fold (zero ∷ s) [] n h = absurd (false≢true (sym n))
 matching-used fold (zero ∷ s) (u ∷ us) n h = absurd (false≢true h)
 matching-used fold (suc c ∷ s) name n h = ap not (eqb·suc-zero c)
 
-valid-nonempty : (limit : ℕ) (n : List ℕ) → validFileName limit n ≡ true → isEmpty n ≡ false
-unfolding validFileName isEmpty
-valid-nonempty limit [] h = absurd (false≢true h)
-valid-nonempty limit (u ∷ us) h = refl
+module _ (ns : Namespace) (fold wd : Bool) (ok : NamespaceConsistent ns) where
+  -- the components before the last lead from a directory to a directory
+  into-ends : (o : Option LinkNo)
+      → Ends Early (λ f. isDirectory (fileAt (ns .files) f .«file_type») ≡ true) (stepInto ns o)
+  unfolding stepInto statusNumber
+  into-ends none = stops (refl, refl)
+  into-ends (some l) =
+      ends-cond (isDirectory (fileAt (ns .files) (linkAt (ns .links) l .file) .«file_type»)) (λ e. goes e)
+      (λ e. stops (refl, refl))
 
-located-leaf : (ns : Namespace) (fold : Bool) (dir : FileNo) (leaf : Leaf) → NamesConsistent ns
-    → isDirectory (fileAt (ns .files) dir .«file_type») ≡ true → validFileName fileNameLimit (leaf .file) ≡ true
-    → PlaceFits ns fold (some leaf) (locateLeaf ns fold dir (some leaf))
-unfolding locateLeaf findLink placeOf linkNumber linkMatches linkUsed linkAt
-located-leaf ns fold dir leaf ok i valid = go (first (linkMatches fold dir (leaf .file)) (ns .links)) refl
+  descend-ends : (dir : FileNo) (names : List (List ℕ)) → isDirectory (fileAt (ns .files) dir .«file_type») ≡ true
+      → Ends Early (λ f. isDirectory (fileAt (ns .files) f .«file_type») ≡ true) (descend ns fold dir names)
+  unfolding descend
+  descend-ends dir [] i = goes i
+  descend-ends dir (name ∷ names) i =
+      ends-bind (into-ends (findLink ns fold dir name)) (λ next j. descend-ends next names j)
+
+  leaf-placed : (dir : FileNo) (leaf : Leaf) → isDirectory (fileAt (ns .files) dir .«file_type») ≡ true
+      → LeafFits wd leaf → isEmpty (leaf .file) ≡ false → PlaceFits ns fold wd (locateLeaf ns fold dir leaf)
+  unfolding locateLeaf findLink placeIn linkNumber linkMatches linkUsed linkAt
+  leaf-placed dir leaf i fits named = go (first (linkMatches fold dir (leaf .file)) (ns .links)) refl
+    where
+      go : (o : Option ℕ) → first (linkMatches fold dir (leaf .file)) (ns .links) ≡ o
+          → PlaceFits ns fold wd (placeIn ns dir leaf (linkNumber o))
+      go none e =
+          record {
+            parent = i;
+            leafFits = fits;
+            nameValid = fits .fileValid named;
+            nameNew = first-none (linkMatches fold dir (leaf .file)) zeroLink (ns .links) e;
+          }
+      go (some n) e =
+          let l = getD (ns .links) n zeroLink in
+          ok .links .namesUsedFile (record { 0 = n })
+          (matching-used fold (l .name) (leaf .file) named
+          (and-right (eqb (l .parent .0) (dir .0)) (equalUnits fold (units (l .name)) (leaf .file))
+          (first-found (linkMatches fold dir (leaf .file)) zeroLink (ns .links) n e .passes)))
+
+  pub located-ends : (path : Path) → LeafFits wd (path .leaf) → Ends Early (PlaceFits ns fold wd) (locate ns fold path)
+  unfolding locate fileUsed
+  located-ends path fits = go (isEmpty (path .leaf .file)) refl
+    where
+      rootDirectory : isDirectory (fileAt (ns .files) root .«file_type») ≡ true
+      rootDirectory = ok .files .rootDirectory
+
+      go : (b : Bool) → isEmpty (path .leaf .file) ≡ b
+          → Ends Early (PlaceFits ns fold wd)
+          (elim b [
+            | true ↦ passed foundRoot
+            | false ↦ descend ns fold root (path .parents) >>= (λ dir. passed (locateLeaf ns fold dir (path .leaf)))
+          ])
+      go true e = goes (directory-used _ rootDirectory)
+      go false e =
+          ends-bind (descend-ends root (path .parents) rootDirectory)
+          (λ dir i. goes (leaf-placed dir (path .leaf) i fits e))
+
+-- a used stream of the file
+pub record StreamThere (ns : Namespace) (f : FileNo) (s : StreamNo) : Type 0 where
+  pub streamUsed : bareUsed (bareAt (ns .streams) s) ≡ true
+  pub streamFile : bareAt (ns .streams) s .file ≡ f
+
+abbrev pub SearchFits : Namespace → Bool → FileNo → List ℕ → Option StreamNo → Type 0
+SearchFits ns fold f name none = any (streamMatches fold f name) (ns .streams) ≡ false
+SearchFits ns fold f name (some s) = StreamThere ns f s
+
+pub searched : (ns : Namespace) (fold : Bool) (f : FileNo) (name : List ℕ) → SearchFits ns fold f name (findStream ns fold f name)
+unfolding findStream bareAt streamMatches streamNumber
+searched ns fold f name = go (first (streamMatches fold f name) (ns .streams)) refl
   where
-    used : (n : ℕ) → Found (linkMatches fold dir (leaf .file)) (ns .links) zeroLink 0 n
-        → linkUsed (getD (ns .links) n zeroLink) ≡ true
-    used n q =
-        let l = getD (ns .links) n zeroLink in
-        matching-used fold (l .name) (leaf .file) (valid-nonempty fileNameLimit (leaf .file) valid)
-        (and-right (eqb (l .parent .0) (dir .0)) (equalUnits fold (units (l .name)) (leaf .file)) (q .passes))
-
-    go : (o : Option ℕ) → first (linkMatches fold dir (leaf .file)) (ns .links) ≡ o
-        → PlaceFits ns fold (some leaf) (placeOf ns dir leaf (linkNumber o))
-    go none e = (i, (leaf, refl, refl, refl), first-none (linkMatches fold dir (leaf .file)) zeroLink (ns .links) e)
+    go : (o : Option ℕ) → first (streamMatches fold f name) (ns .streams) ≡ o → SearchFits ns fold f name (streamNumber o)
+    go none e = first-none (streamMatches fold f name) zeroBare (ns .streams) e
     go (some n) e =
-        ok .links .namesUsedFile (record { 0 = n })
-        (used n (first-found (linkMatches fold dir (leaf .file)) zeroLink (ns .links) n e))
+        let b = getD (ns .streams) n zeroBare in
+        let x = bareUsed b in
+        let y = eqb (b .file .0) (f .0) in
+        let h =
+        and-left (x && y) (equalUnits fold (units (b .name)) name)
+        (first-found (streamMatches fold f name) zeroBare (ns .streams) n e .passes) in
+        record {
+          streamUsed = and-left x y h;
+          streamFile = same-file (b .file) f (eqb-true (b .file .0) (f .0) (and-right x y h));
+        }
 
-located-at : (ns : Namespace) (fold wantsDirectory : Bool) (dir : FileNo) (leaf : Option Leaf) → NamesConsistent ns
-    → isDirectory (fileAt (ns .files) dir .«file_type») ≡ true
-    → ((l : Leaf) → leaf ≡ some l → LeafFits wantsDirectory l)
-    → PlaceFits ns fold leaf (locateLeaf ns fold dir leaf)
-unfolding locateLeaf fileUsed
-located-at ns fold wd dir none ok i fits = directory-used (fileAt (ns .files) dir .«file_type») i
-located-at ns fold wd dir (some l) ok i fits = located-leaf ns fold dir l ok i (fits l refl .fileValid)
+-- a used file has its unnamed stream
+unnamed-same : (f : FileNo) (b : BareStream) → unnamedOf f b ≡ streamMatches false f [] b
+unfolding unnamedOf streamOf streamMatches equalUnits same isEmpty
+unnamed-same f b = go (units (b .name))
+  where
+    a : Bool
+    a = bareUsed b && eqb (b .file .0) (f .0)
 
-pub located : (ns : Namespace) (fold wantsDirectory : Bool) (path : Path) (place : Place) → NamesConsistent ns
-    → ((l : Leaf) → path .leaf ≡ some l → LeafFits wantsDirectory l)
-    → locate ns fold path ≡ passed place → PlaceFits ns fold (path .leaf) place
-unfolding locate
-located ns fold wd path place ok fits h =
-    let q = bind-passed (descend ns fold root (path .parents)) (λ dir. passed (locateLeaf ns fold dir (path .leaf))) h in
-    subst (λ (p : Place). PlaceFits ns fold (path .leaf) p) (passed-same (q .2))
-    (located-at ns fold wd (q .0) (path .leaf) ok
-    (descended ns fold root (path .parents) (q .0) (ok .files .rootDirectory) (q .1)) fits)
+    go : (us : List ℕ) → (a && isEmpty us) ≡ (a && same (map (folded false) us) [])
+    go [] = refl
+    go (u ∷ us) = refl
+
+pub unnamed-ends : (ns : Namespace) (f : FileNo) → NamespaceConsistent ns → fileUsed (fileAt (ns .files) f) ≡ true
+    → Ends Early (StreamThere ns f) (someOr FileCorruptError (findStream ns false f []))
+unfolding someOr
+unnamed-ends ns f ok used = go (findStream ns false f []) (searched ns false f [])
+  where
+    go : (o : Option StreamNo) → SearchFits ns false f [] o → Ends Early (StreamThere ns f) (someOr FileCorruptError o)
+    go none none-found =
+        let e = any-count (unnamedOf f) (ns .streams) (any-same _ _ (unnamed-same f) (ns .streams) ∙ none-found) in
+        absurd (let z : ⊥ = omega (arith, ok .streams .oneUnnamed f used, e) in z)
+    go (some s) there = goes there

@@ -5,5 +5,4 @@ pub mod Join
 pub mod Leave
 pub mod Counts
 pub mod Conflicts
-pub mod Pairwise
 pub mod Close

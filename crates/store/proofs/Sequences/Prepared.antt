@@ -1,55 +1,127 @@
--- A pending open fits the consistent names that it was prepared in.
+-- The steps before the sharing check, followed once. On a consistent namespace none of them refuses with
+-- FILE_CORRUPT_ERROR or SHARING_VIOLATION, and the pending open that they leave fits the namespace.
 use Prim.Native.Nat.{ℕ, _≤_}
-use mathlib.Core.Path.{_≡_, refl, sym, _∙_, ap, subst, subst₂}
+use mathlib.Core.Path.{_≡_, refl, _∙_}
 use mathlib.Core.Bool.{Bool, true, false, cond, not, _&&_, _||_, false≢true, true≢false}
 use mathlib.Core.List.{List, [], _∷_}
 use mathlib.Core.Option.{Option, none, some, Option·some-injective}
 use mathlib.Core.Logic.{_≢_}
-use lib.Bits.{bitOr, or-add-and}
+use lib.Bits.{bitOr}
 use lib.Dec.{eqb}
-use lib.ListN.{getD}
 use native.Mathlib.Omega.{arith}
-use borrow.Author.Tests.{eqb-true}
-use Rattle.bits.specs.Bits.{within, has, without}
 use Rattle.bits.proofs.Sets.{within-or-l, within-le}
-use Rattle.lists.specs.Lists.{all, any, first, isEmpty, oneOf}
-use Rattle.lists.proofs.Tests.{none≢some, and-left, and-right, tested}
-use Rattle.lists.proofs.Find.{Found, first-found, first-none}
+use Rattle.lists.specs.Lists.{any, isEmpty, oneOf}
+use Rattle.lists.proofs.Tests.{none≢some}
 use Rattle.records.specs.Sizes.{streamNameLimit}
-use Rattle.records.specs.Constants.{supersede, openOnly, create, openIf, overwrite, directory, archive, temporary, writeData, addFile, addSubdirectory, allAccess}
-use Rattle.records.specs.Slots.{isUsed, isData, isDirectory, fileUsed, maskOf}
+use Rattle.records.specs.Constants.{openOnly, create, openIf, writeData}
+use Rattle.records.specs.Numbers.{statusNumber}
+use Rattle.records.specs.Slots.{isUsed, isData, isDirectory, fileUsed}
 use Rattle.tables.specs.Tables.{fileAt}
-use Rattle.records.specs.Namespace.{Namespace, BareStream, zeroBare, bareUsed, bareAt}
-use Rattle.records.specs.Checked.{Checked, refused, passed, _>>=_, _>>_, refuseIf}
+use Rattle.records.specs.Namespace.{Namespace}
+use Rattle.records.specs.Checked.{Checked, passed, _>>=_, _>>_}
 use Rattle.records.specs.declared.Status.{Status}
-use Rattle.records.specs.declared.Status.the-variants.{FileCorruptError, InvalidParameter, AccessDenied, MediaWriteProtected, ObjectNameNotFound, ObjectNameCollision}
-use Rattle.records.specs.declared.CreateAction.{CreateAction}
+use Rattle.records.specs.declared.Status.the-variants.{AccessDenied, ObjectNameCollision, FileIsADirectory, NotADirectory}
 use Rattle.records.specs.declared.FileType.{FileType}
 use Rattle.records.specs.declared.FileType.the-variants.{Unused, Data, Directory}
 use Rattle.records.specs.declared.FileNo.{FileNo}
 use Rattle.records.specs.declared.StreamNo.{StreamNo}
-use Rattle.records.specs.declared.File.{File}
 use Rattle.records.specs.declared.Request.{Request}
-use Rattle.records.proofs.Checked.{refused≢passed, passed-same, bind-passed, then-passed, test-passed}
-use Rattle.units.specs.Units.{equalUnits}
+use Rattle.records.proofs.Checked.{Ends, goes, went, ends-bind, ends-test, ends-cond, ends-weaker}
 use Rattle.names.specs.Names.{validStreamName}
-use Rattle.stored_names.specs.StoredNames.{units}
-use Rattle.paths.specs.Paths.{Leaf, Path, parsePath}
-use Rattle.paths.proofs.Parsed.{LeafFits, parsed-leaf}
-use Rattle.lookup.specs.Lookup.{linkMatches, Place, found, missing, locate}
-use Rattle.stream_lookup.specs.StreamLookup.{streamMatches, streamNumber, findStream}
-use Rattle.store.specs.Request.{wantsDirectory, wantsFile, badParameters, badAccess, wantsBoth, writesVolume}
-use Rattle.store.specs.Prepare
-use Rattle.store.specs.Prepare.{Existing, newStream, newFile, Pending, existing, creating, opening, grant, grantedNew, newType, attributesNew, fileNew, prepareNew, wrongType, streamOr, prepareDirectory, prepareOpen, gained, replacement, prepareReplace, prepareStream, prepareData, prepareFound, prepareAt, streamName, hasColon, readSharingOf, prepare}
-use Rattle.store.proofs.Sequences.Facts.{NamesConsistent, AttributesFit, StreamFits, FileFits, Grantable, ExistingFits, PendingFits}
+use Rattle.paths.specs.Paths.{Leaf}
+use Rattle.paths.proofs.Parsed.{LeafFits, parsed-ends}
+use Rattle.lookup.specs.Lookup.{Resolved, Place, found, missing}
+use Rattle.stream_lookup.specs.StreamLookup.{streamMatches, findStream}
 use Rattle.consistency.proofs.Slots.{directory-used}
-use Rattle.store.proofs.Sequences.Located.{PlaceFits, located}
-use Rattle.store.proofs.Sequences.Granted.{granted-fits}
+use Rattle.store.specs.Request.{wantsDirectory, wantsFile}
+use Rattle.store.specs.Target.{Target, existingDirectory, existingStream, missingStream, missingFile, targetNew, wrongType, targetDirectory, targetData, targetFound, targetAt, target}
+use Rattle.store.specs.Prepare.{ReadSharing, asOffered, Pending, newType, fileNew, admitFile, admitOpen, gained, replacement, admitReplace, admitStream, admit, prepare}
+use Rattle.store.proofs.Sequences.Facts.{NamespaceConsistent, AttributesFit, PendingFits, Early}
+use Rattle.store.proofs.Sequences.Located.{MissingFits, PlaceFits, located-ends, StreamThere, SearchFits, searched, unnamed-ends}
+use Rattle.store.proofs.Sequences.Granted.{grant-ends}
 use Rattle.store.proofs.Sequences.Requested.{RequestFits, requested, granted-new, Attributes, replaced, archived, attributes-new}
 
--- a passed value that fits, from the value that was passed
-as-passed : (ns : Namespace) {q p : Pending} → passed q ≡ passed p → PendingFits ns q → PendingFits ns p
-as-passed ns e h = subst (λ (x : Pending). PendingFits ns x) (passed-same e) h
+-- a status by a test
+early-cond : (b : Bool) (x y : Status) → Early (record { status = x }) → Early (record { status = y })
+    → Early (record { status = cond b x y })
+early-cond true x y h k = h
+early-cond false x y h k = k
+
+-- a used file that is no directory
+record DataFile (ns : Namespace) (f : FileNo) : Type 0 where
+  pub used : fileUsed (fileAt (ns .files) f) ≡ true
+  pub noDirectory : isDirectory (fileAt (ns .files) f .«file_type») ≡ false
+
+-- a name that a data file may gain a stream of
+record StreamMissing (ns : Namespace) (fold : Bool) (f : FileNo) (name : List ℕ) : Type 0 where
+  pub nameValid : validStreamName streamNameLimit name ≡ true
+  pub nameNew : any (streamMatches fold f name) (ns .streams) ≡ false
+
+-- what steps 1 to 8 leave of a target
+abbrev TargetFits : Namespace → Request → Target → Type 0
+TargetFits ns r (existingDirectory at s) = (fileUsed (fileAt (ns .files) (at .file)) ≡ true) × StreamThere ns (at .file) s
+TargetFits ns r (existingStream at leaf s) = DataFile ns (at .file) × StreamThere ns (at .file) s
+TargetFits ns r (missingStream at leaf) = DataFile ns (at .file) × StreamMissing ns (r .fold) (at .file) (leaf .stream)
+TargetFits ns r (missingFile dir leaf) = MissingFits ns (r .fold) (wantsDirectory r) dir leaf
+
+module _ (ns : Namespace) (r : Request) (ok : NamespaceConsistent ns) where
+  -- step 8
+  type-ends : {g : Checked Target} (leaf : Leaf) (isDir : Bool) → Ends Early (TargetFits ns r) g
+      → Ends Early (TargetFits ns r) (wrongType r leaf isDir >> g)
+  unfolding wrongType statusNumber
+  type-ends leaf true h =
+      ends-test _ _ (early-cond (eqb (r .disposition) create) ObjectNameCollision FileIsADirectory (refl, refl) (refl, refl))
+      (λ e. h)
+  type-ends leaf false h =
+      ends-test _ _ (early-cond (eqb (r .disposition) create) ObjectNameCollision NotADirectory (refl, refl) (refl, refl))
+      (λ e. h)
+
+  -- step 10
+  directory-ends : (at : Resolved) → fileUsed (fileAt (ns .files) (at .file)) ≡ true
+      → Ends Early (TargetFits ns r) (targetDirectory ns r at)
+  unfolding targetDirectory statusNumber
+  directory-ends at used =
+      ends-test _ _ (early-cond (eqb (at .file .0) 0) AccessDenied ObjectNameCollision (refl, refl) (refl, refl))
+      (λ e. ends-bind (unnamed-ends ns (at .file) ok used) (λ s there. goes (used, there)))
+
+  -- step 11
+  data-ends : (at : Resolved) (leaf : Leaf) (o : Option StreamNo) → DataFile ns (at .file)
+      → validStreamName streamNameLimit (leaf .stream) ≡ true → SearchFits ns (r .fold) (at .file) (leaf .stream) o
+      → Ends Early (TargetFits ns r) (targetData r at leaf o)
+  unfolding targetData statusNumber
+  data-ends at leaf none dataFile valid new =
+      ends-test _ _ (refl, refl) (λ e. goes (dataFile, record { nameValid = valid; nameNew = new }))
+  data-ends at leaf (some s) dataFile valid there = ends-test _ _ (refl, refl) (λ e. goes (dataFile, there))
+
+  place-ends : (leaf : Leaf) (p : Place) → LeafFits (wantsDirectory r) leaf → PlaceFits ns (r .fold) (wantsDirectory r) p
+      → Ends Early (TargetFits ns r) (targetAt ns r leaf p)
+  unfolding targetAt targetFound targetNew statusNumber
+  place-ends leaf (found at) fits used =
+      let isDir = isDirectory (fileAt (ns .files) (at .file) .«file_type») in
+      type-ends leaf isDir
+      (ends-cond isDir (λ e. directory-ends at used)
+      (λ e.
+      data-ends at leaf (findStream ns (r .fold) (at .file) (leaf .stream)) (record { used = used; noDirectory = e })
+      (fits .streamValid) (searched ns (r .fold) (at .file) (leaf .stream))))
+  place-ends leaf (missing dir name) fits new = ends-test _ _ (refl, refl) (λ e. ends-test _ _ (refl, refl) (λ w. goes new))
+
+  -- the steps in order
+  target-ends : (units : List ℕ) → Ends Early (λ t. RequestFits r × TargetFits ns r t) (target ns r units)
+  unfolding target statusNumber
+  target-ends units =
+      ends-test _ _ (refl, refl)
+      (λ a.
+      ends-test _ _ (refl, refl)
+      (λ b.
+      ends-test _ _ (refl, refl)
+      (λ c.
+      ends-bind (parsed-ends (refl, refl) (wantsDirectory r) (wantsFile r) units)
+      (λ path fits.
+      ends-test _ _ (refl, refl)
+      (λ d.
+      ends-bind (located-ends ns (r .fold) (wantsDirectory r) ok path fits)
+      (λ p q.
+      ends-weaker (λ s early. early) (λ t g. (requested r a b, g)) (place-ends (path .leaf) p fits q)))))))
 
 used-data : (t : FileType) → isUsed t ≡ true → isDirectory t ≡ false → isData t ≡ true
 unfolding isUsed isDirectory isData
@@ -57,224 +129,136 @@ used-data Unused u d = u
 used-data Data u d = refl
 used-data Directory u d = absurd (true≢false d)
 
--- the access rule's answer, with the request's sharing mode
-grantable : (ns : Namespace) (r : Request) (f : FileNo) (access g : ℕ) → NamesConsistent ns → RequestFits r
-    → fileUsed (fileAt (ns .files) f) ≡ true → access ≢ 0 → grant ns r f access ≡ passed g → Grantable g (r .share)
-unfolding grant
-grantable ns r f access g ok fits used nz h =
-    let q = granted-fits (fileAt (ns .files) f) (r .account) access g (ok .files .masksWithin f used) nz h in
-    record { nonzero = q .0; grantedWithin = q .1; shareAtMost = fits .shareAtMost }
+data-attributes : (ns : Namespace) (f : FileNo) (a : ℕ) → DataFile ns f → Attributes false a → AttributesFit ns f a
+unfolding fileUsed
+data-attributes ns f a dataFile h =
+    record {
+      dataFile = used-data (fileAt (ns .files) f .«file_type») (dataFile .used) (dataFile .noDirectory);
+      attributesWithin = h .inRange;
+      noDirectoryBit = h .directoryBit;
+    }
 
 -- access that gains bits stays nonzero
 gains : (a b : ℕ) → a ≢ 0 → bitOr a b ≢ 0
 gains a b nz e = nz (let h : a ≤ bitOr a b = within-le a (bitOr a b) (within-or-l a b) in omega (arith, e))
 
--- a found stream is a used one of the file
-found-stream : (ns : Namespace) (fold : Bool) (f : FileNo) (name : List ℕ) (s : StreamNo) → findStream ns fold f name ≡ some s
-    → (bareUsed (bareAt (ns .streams) s) ≡ true) × (bareAt (ns .streams) s .file ≡ f)
-unfolding findStream bareAt streamMatches streamNumber
-found-stream ns fold f name s h = go (first (streamMatches fold f name) (ns .streams)) refl h
-  where
-    matched : (b : BareStream) → streamMatches fold f name b ≡ true → (bareUsed b ≡ true) × (b .file ≡ f)
-    matched b m =
-        let x = bareUsed b in
-        let y = eqb (b .file .0) (f .0) in
-        let h = and-left (x && y) (equalUnits fold (units (b .name)) name) m in
-        let e = eqb-true (b .file .0) (f .0) (and-right x y h) in
-        (and-left x y h, λ i. record { 0 = e i })
-
-    go : (o : Option ℕ) → first (streamMatches fold f name) (ns .streams) ≡ o → streamNumber o ≡ some s
-        → (bareUsed (getD (ns .streams) (s .0) zeroBare) ≡ true) × (getD (ns .streams) (s .0) zeroBare .file ≡ f)
-    go none e k = absurd (none≢some k)
-    go (some n) e k =
-        subst (λ (t : StreamNo). (bareUsed (getD (ns .streams) (t .0) zeroBare) ≡ true) × (getD (ns .streams) (t .0) zeroBare .file ≡ f))
-        (Option·some-injective (record { 0 = n }) s k)
-        (matched (getD (ns .streams) n zeroBare)
-        (first-found (streamMatches fold f name) zeroBare (ns .streams) n e .passes))
-
-missing-stream : (ns : Namespace) (fold : Bool) (f : FileNo) (name : List ℕ) → findStream ns fold f name ≡ none
-    → any (streamMatches fold f name) (ns .streams) ≡ false
-unfolding findStream streamNumber
-missing-stream ns fold f name h = go (first (streamMatches fold f name) (ns .streams)) refl h
-  where
-    go : (o : Option ℕ) → first (streamMatches fold f name) (ns .streams) ≡ o → streamNumber o ≡ none
-        → any (streamMatches fold f name) (ns .streams) ≡ false
-    go none e k = first-none (streamMatches fold f name) zeroBare (ns .streams) e
-    go (some n) e k = absurd (none≢some (sym k))
-
--- steps 10 and 11 on a used file
-module _ (ns : Namespace) (r : Request) (f : FileNo) (ok : NamesConsistent ns) (fits : RequestFits r) (used : fileUsed (fileAt (ns .files) f) ≡ true) where
-  -- an open of a stream that is there
-  opening-fits : (s : StreamNo) (sharing : Prepare.ReadSharing) (action : CreateAction) (attributes : Option ℕ) (access g : ℕ)
-      → (bareUsed (bareAt (ns .streams) s) ≡ true) × (bareAt (ns .streams) s .file ≡ f) → access ≢ 0 → grant ns r f access ≡ passed g
-      → ((a : ℕ) → attributes ≡ some a → AttributesFit ns f a)
-      → {p : Pending} → passed (opening r f s sharing action attributes g) ≡ passed p → PendingFits ns p
-  unfolding opening
-  opening-fits s sharing action attributes access g q nz e change h =
-      as-passed ns h
+module _ (ns : Namespace) (r : Request) (ok : NamespaceConsistent ns) (fits : RequestFits r) where
+  -- steps 10 and 11, a stream that is there
+  open-ends : (f : FileNo) (s : StreamNo) (sharing : ReadSharing) → fileUsed (fileAt (ns .files) f) ≡ true
+      → StreamThere ns f s → Ends Early (PendingFits ns) (admitOpen ns r f s sharing)
+  unfolding admitOpen
+  open-ends f s sharing used there =
+      ends-bind (grant-ends ns r f (r .access) ok fits used (fits .accessNonzero))
+      (λ terms g.
+      goes
       (record {
-        grantable = grantable ns r f access g ok fits used nz e;
-        streamUsed = q .0;
-        streamFile = q .1;
-        attributes = change;
-      })
+        grantable = g;
+        streamUsed = there .streamUsed;
+        streamFile = there .streamFile;
+        attributes = λ a e. absurd (none≢some e);
+      }))
 
-  directory-fits : (p : Pending) → prepareDirectory ns r f ≡ passed p → PendingFits ns p
-  unfolding prepareDirectory streamOr
-  directory-fits p h =
-      let t = test-passed _ _ _ h in
-      let g = bind-passed _ _ (t .1) in
-      let s = bind-passed _ _ (g .2) in
-      opening-fits (s .0) _ _ none (r .access) (g .0) (found-stream ns false f [] (s .0) (stream-or _ (s .1)))
-      (fits .accessNonzero) (g .1) (λ a e. absurd (none≢some e)) (s .2)
-    where
-      stream-or : (o : Option StreamNo) {s : StreamNo} → streamOr FileCorruptError o ≡ passed s → o ≡ some s
-      stream-or none e = absurd (refused≢passed e)
-      stream-or (some t) e = ap some (passed-same e)
+  replacement-fits : (f : FileNo) (unnamed : Bool) (a : ℕ) → DataFile ns f → replacement r unnamed ≡ some a → AttributesFit ns f a
+  unfolding replacement
+  replacement-fits f true a dataFile e =
+      rw (← Option·some-injective _ a e) (data-attributes ns f _ dataFile (replaced r fits))
+  replacement-fits f false a dataFile e = absurd (none≢some e)
 
-  open-fits : (s : StreamNo) → (bareUsed (bareAt (ns .streams) s) ≡ true) × (bareAt (ns .streams) s .file ≡ f)
-      → (p : Pending) → prepareOpen ns r f s ≡ passed p → PendingFits ns p
-  unfolding prepareOpen
-  open-fits s q p h =
-      let g = bind-passed _ _ h in
-      opening-fits s _ _ none (r .access) (g .0) q (fits .accessNonzero) (g .1) (λ a e. absurd (none≢some e)) (g .2)
+  replace-ends : (f : FileNo) (s : StreamNo) (unnamed : Bool) → DataFile ns f → StreamThere ns f s
+      → Ends Early (PendingFits ns) (admitReplace ns r f s unnamed)
+  unfolding admitReplace statusNumber
+  replace-ends f s unnamed dataFile there =
+      ends-test _ _ (refl, refl)
+      (λ h.
+      ends-bind
+      (grant-ends ns r f (bitOr (r .access) (gained r unnamed)) ok fits (dataFile .used)
+      (gains (r .access) (gained r unnamed) (fits .accessNonzero)))
+      (λ terms g.
+      goes
+      (record {
+        grantable = g;
+        streamUsed = there .streamUsed;
+        streamFile = there .streamFile;
+        attributes = λ a e. replacement-fits f unnamed a dataFile e;
+      })))
 
-  module _ (d : isDirectory (fileAt (ns .files) f .«file_type») ≡ false) where
-    data-attributes : (a : ℕ) → Attributes false a → AttributesFit ns f a
-    unfolding fileUsed
-    data-attributes a h =
-        record {
-          dataFile = used-data (fileAt (ns .files) f .«file_type») used d;
-          attributesWithin = h .inRange;
-          noDirectoryBit = h .directoryBit;
-        }
-
-    replacement-fits : (unnamed : Bool) (a : ℕ) → replacement r unnamed ≡ some a → AttributesFit ns f a
-    unfolding replacement
-    replacement-fits true a e =
-        subst (λ (x : ℕ). AttributesFit ns f x) (Option·some-injective _ a e) (data-attributes _ (replaced r fits))
-    replacement-fits false a e = absurd (none≢some e)
-
-    replace-fits : (s : StreamNo) → (bareUsed (bareAt (ns .streams) s) ≡ true) × (bareAt (ns .streams) s .file ≡ f)
-        → (unnamed : Bool) (p : Pending) → prepareReplace ns r f s unnamed ≡ passed p → PendingFits ns p
-    unfolding prepareReplace
-    replace-fits s q unnamed p h =
-        let t = test-passed _ _ _ h in
-        let g = bind-passed _ _ (t .1) in
-        opening-fits s _ _ (replacement r unnamed) (bitOr (r .access) (gained r unnamed)) (g .0) q
-        (gains (r .access) (gained r unnamed) (fits .accessNonzero)) (g .1) (replacement-fits unnamed) (g .2)
-
-    stream-fits : (name : List ℕ) → validStreamName streamNameLimit name ≡ true
-        → any (streamMatches (r .fold) f name) (ns .streams) ≡ false
-        → (p : Pending) → prepareStream ns r f name ≡ passed p → PendingFits ns p
-    unfolding prepareStream
-    stream-fits name v m p h =
-        let t = test-passed _ _ _ h in
-        let g = bind-passed _ _ (t .1) in
-        let w = test-passed _ _ _ (g .2) in
-        let old : Attributes false (fileAt (ns .files) f .attributes) =
-        record { inRange = ok .files .attributesWithin f used; directoryBit = ok .files .directoryBit f used ∙ d } in
-        as-passed ns (w .1) (
-          record {
-            attributes = data-attributes _ (archived _ old);
-            nameValid = v;
-            fold = r .fold;
-            nameNew = m;
-          },
-          grantable ns r f (bitOr (r .access) writeData) (g .0) ok fits used (gains (r .access) writeData (fits .accessNonzero)) (g .1),
-        )
-
-    data-fits : (name : List ℕ) → validStreamName streamNameLimit name ≡ true
-        → (o : Option StreamNo) → findStream ns (r .fold) f name ≡ o
-        → (p : Pending) → prepareData ns r f name o ≡ passed p → PendingFits ns p
-    unfolding prepareData
-    data-fits name v none e p h = stream-fits name v (missing-stream ns (r .fold) f name e) p h
-    data-fits name v (some s) e p h =
-        let t = test-passed _ _ _ h in
-        go (oneOf (r .disposition) (openOnly ∷ openIf ∷ [])) (t .1)
-      where
-        go : (b : Bool) → cond b (prepareOpen ns r f s) (prepareReplace ns r f s (isEmpty name)) ≡ passed p → PendingFits ns p
-        go true k = open-fits s (found-stream ns (r .fold) f name s e) p k
-        go false k = replace-fits s (found-stream ns (r .fold) f name s e) (isEmpty name) p k
-
-  found-fits : (stream : List ℕ) (colon : Bool) → validStreamName streamNameLimit stream ≡ true
-      → (p : Pending) → prepareFound ns r f stream colon ≡ passed p → PendingFits ns p
-  unfolding prepareFound
-  found-fits stream colon v p h =
-      let t = then-passed _ _ h in
-      go (isDirectory (fileAt (ns .files) f .«file_type»)) refl (t .2)
-    where
-      go : (b : Bool) → isDirectory (fileAt (ns .files) f .«file_type») ≡ b
-          → cond b (prepareDirectory ns r f) (prepareData ns r f stream (findStream ns (r .fold) f stream)) ≡ passed p → PendingFits ns p
-      go true e k = directory-fits p k
-      go false e k = data-fits e stream v (findStream ns (r .fold) f stream) refl p k
-
--- steps 7 and 9: a new file
-new-fits : (ns : Namespace) (r : Request) (dir : FileNo) (l : Leaf) → NamesConsistent ns → RequestFits r
-    → LeafFits (wantsDirectory r) l → isDirectory (fileAt (ns .files) dir .«file_type») ≡ true
-    → any (linkMatches (r .fold) dir (l .file)) (ns .links) ≡ false
-    → (p : Pending) → prepareNew ns r dir (l .file) (l .stream) ≡ passed p → PendingFits ns p
-unfolding prepareNew fileNew fileUsed newType isUsed isDirectory
-new-fits ns r dir l ok fits leaf i m p h =
-    let parent = fileAt (ns .files) dir in
-    let a = test-passed _ _ _ h in
-    let b = test-passed _ _ _ (a .1) in
-    let c = test-passed _ _ _ (b .1) in
-    let d = test-passed _ _ _ (c .1) in
-    let attributes = attributes-new r parent in
-    let g = granted-new r fits in
-    as-passed ns (d .1) (
+  -- step 11, stream missing
+  stream-ends : (f : FileNo) (leaf : Leaf) → DataFile ns f → StreamMissing ns (r .fold) f (leaf .stream)
+      → Ends Early (PendingFits ns) (admitStream ns r f leaf)
+  unfolding admitStream statusNumber
+  stream-ends f leaf dataFile new =
+      let old : Attributes false (fileAt (ns .files) f .attributes) =
       record {
-        parent = i;
-        nameValid = leaf .fileValid;
-        fold = r .fold;
-        nameNew = m;
-        streamValid = leaf .streamValid;
-        used = type-used (wantsDirectory r);
-        attributesWithin = attributes .inRange;
-        directoryBit = attributes .directoryBit;
-        masksValid = ok .files .masksWithin dir (directory-used (parent .«file_type») i);
-        directoryUnnamed = λ e. leaf .unnamed (no-colon (wantsDirectory r) (leaf .noColon) e);
-      },
-      record { nonzero = g .0; grantedWithin = g .1; shareAtMost = fits .shareAtMost },
-    )
-  where
-    type-used : (b : Bool) → isUsed (cond b Directory Data) ≡ true
-    type-used true = refl
-    type-used false = refl
+        inRange = ok .files .attributesWithin f (dataFile .used);
+        directoryBit = ok .files .directoryBit f (dataFile .used) ∙ dataFile .noDirectory;
+      } in
+      ends-bind
+      (grant-ends ns r f (bitOr (r .access) writeData) ok fits (dataFile .used)
+      (gains (r .access) writeData (fits .accessNonzero)))
+      (λ terms g.
+      ends-test _ _ (refl, refl)
+      (λ w.
+      goes (
+        record {
+          attributes = data-attributes ns f _ dataFile (archived _ old);
+          nameValid = new .nameValid;
+          fold = r .fold;
+          nameNew = new .nameNew;
+        },
+        g,
+      )))
 
-    no-colon : (b : Bool) → (b && l .colon) ≡ false → isDirectory (cond b Directory Data) ≡ true → l .colon ≡ false
-    no-colon true e d = e
-    no-colon false e d = absurd (false≢true d)
+  -- step 9
+  file-ends : (dir : FileNo) (leaf : Leaf) → MissingFits ns (r .fold) (wantsDirectory r) dir leaf
+      → Ends Early (PendingFits ns) (admitFile ns r dir leaf)
+  unfolding admitFile fileNew fileUsed newType isUsed isDirectory statusNumber
+  file-ends dir leaf new =
+      let parent = fileAt (ns .files) dir in
+      let attributes = attributes-new r parent in
+      ends-test _ _ (refl, refl)
+      (λ t.
+      ends-test _ _ (refl, refl)
+      (λ m.
+      goes (
+        record {
+          parent = new .parent;
+          nameValid = new .nameValid;
+          fold = r .fold;
+          nameNew = new .nameNew;
+          streamValid = new .leafFits .streamValid;
+          used = type-used (wantsDirectory r);
+          attributesWithin = attributes .inRange;
+          directoryBit = attributes .directoryBit;
+          masksValid = ok .files .masksWithin dir (directory-used (parent .«file_type») (new .parent));
+          directoryUnnamed = λ e. new .leafFits .unnamed (no-colon (wantsDirectory r) (new .leafFits .noColon) e);
+        },
+        granted-new r fits,
+      )))
+    where
+      type-used : (b : Bool) → isUsed (cond b Directory Data) ≡ true
+      type-used true = refl
+      type-used false = refl
 
--- the stream name of a parsed path is valid; the root's is empty
-stream-valid : (wd : Bool) (leaf : Option Leaf) → ((l : Leaf) → leaf ≡ some l → LeafFits wd l)
-    → validStreamName streamNameLimit (streamName leaf) ≡ true
-unfolding streamName validStreamName all
-stream-valid wd none fits = refl
-stream-valid wd (some l) fits = fits l refl .streamValid
+      no-colon : (b : Bool) → (b && leaf .colon) ≡ false → isDirectory (cond b Directory Data) ≡ true → leaf .colon ≡ false
+      no-colon true e d = e
+      no-colon false e d = absurd (false≢true d)
 
-pub prepared : (ns : Namespace) (r : Request) (units : List ℕ) (p : Pending) → NamesConsistent ns
+  admit-ends : (t : Target) → TargetFits ns r t → Ends Early (PendingFits ns) (admit ns r t)
+  unfolding admit
+  admit-ends (existingDirectory at s) (used, there) = open-ends (at .file) s _ used there
+  admit-ends (existingStream at leaf s) (dataFile, there) =
+      ends-cond (oneOf (r .disposition) (openOnly ∷ openIf ∷ []))
+      (λ e. open-ends (at .file) s asOffered (dataFile .used) there)
+      (λ e. replace-ends (at .file) s (isEmpty (leaf .stream)) dataFile there)
+  admit-ends (missingStream at leaf) (dataFile, new) = stream-ends (at .file) leaf dataFile new
+  admit-ends (missingFile dir leaf) new = file-ends dir leaf new
+
+pub prepare-ends : (ns : Namespace) (r : Request) (units : List ℕ) → NamespaceConsistent ns
+    → Ends Early (PendingFits ns) (prepare ns r units)
+unfolding prepare
+prepare-ends ns r units ok =
+    ends-bind (target-ends ns r ok units) (λ t fits. admit-ends ns r ok (fits .0) t (fits .1))
+
+pub prepared : (ns : Namespace) (r : Request) (units : List ℕ) (p : Pending) → NamespaceConsistent ns
     → prepare ns r units ≡ passed p → PendingFits ns p
-unfolding prepare prepareAt
-prepared ns r units p ok h =
-    let a = test-passed _ _ _ h in
-    let b = test-passed _ _ _ (a .1) in
-    let c = test-passed _ _ _ (b .1) in
-    let path = bind-passed _ _ (c .1) in
-    let d = test-passed _ _ _ (path .2) in
-    let place = bind-passed _ _ (d .1) in
-    let leaf = parsed-leaf (wantsDirectory r) (wantsFile r) units (path .0) (path .1) in
-    at-place (path .0 .leaf) leaf (place .0)
-    (located ns (r .fold) (wantsDirectory r) (path .0) (place .0) ok leaf (place .1))
-    (requested r (a .0) (b .0)) (place .2)
-  where
-    at-place : (leaf : Option Leaf) → ((l : Leaf) → leaf ≡ some l → LeafFits (wantsDirectory r) l) → (q : Place)
-        → PlaceFits ns (r .fold) leaf q → RequestFits r → prepareAt ns r leaf q ≡ passed p → PendingFits ns p
-    at-place leaf fits (found f) place req k =
-        found-fits ns r f ok req place (streamName leaf) (hasColon leaf) (stream-valid (wantsDirectory r) leaf fits) p k
-    at-place leaf fits (missing dir name stream) place req k =
-        let l = place .1 .0 in
-        new-fits ns r dir l ok req (fits l (place .1 .1)) (place .0)
-        (subst (λ (n : List ℕ). any (linkMatches (r .fold) dir n) (ns .links) ≡ false) (place .1 .2) (place .2)) p
-        (subst₂ (λ (n s : List ℕ). prepareNew ns r dir n s ≡ passed p) (place .1 .2) (place .1 .3) k)
+prepared ns r units p ok e = went (rw e at (prepare-ends ns r units ok))

@@ -19,6 +19,7 @@ use Rattle.records.specs.declared.File.{File}
 use Rattle.records.specs.declared.Request.{Request}
 use Rattle.store.specs.Request.{wantsDirectory, badParameters, badAccess}
 use Rattle.store.specs.Prepare.{grantedNew, newType, attributesNew}
+use Rattle.store.proofs.Sequences.Facts.{Grantable}
 
 pub record RequestFits (r : Request) : Type 0 where
   pub accessNonzero : r .access ≢ 0
@@ -58,14 +59,19 @@ requested r p q =
     }
 
 -- step 9's granted access
-pub granted-new : (r : Request) → RequestFits r → (grantedNew (r .access) ≢ 0) × (within (grantedNew (r .access)) allAccess ≡ true)
+pub granted-new : (r : Request) → RequestFits r → Grantable (record { granted = grantedNew (r .access); share = r .share })
 unfolding grantedNew
 granted-new r fits = go (has (r .access) maximumAllowed) refl
   where
     go : (b : Bool) → has (r .access) maximumAllowed ≡ b
-        → (cond b allAccess (r .access) ≢ 0) × (within (cond b allAccess (r .access)) allAccess ≡ true)
-    go true e = (λ z. omega arith, within-self allAccess)
-    go false e = (fits .accessNonzero, within-split (r .access) allAccess maximumAllowed (fits .accessWithin) e)
+        → Grantable (record { granted = cond b allAccess (r .access); share = r .share })
+    go true e = record { nonzero = λ z. omega arith; grantedWithin = within-self allAccess; shareAtMost = fits .shareAtMost }
+    go false e =
+        record {
+          nonzero = fits .accessNonzero;
+          grantedWithin = within-split (r .access) allAccess maximumAllowed (fits .accessWithin) e;
+          shareAtMost = fits .shareAtMost;
+        }
 
 -- the attributes of steps 9 and 11: within 0x3137, and with 0x10 exactly for a directory
 pub record Attributes (isDir : Bool) (a : ℕ) : Type 0 where

@@ -1,40 +1,41 @@
 -- Demand 3: every sequence of calls from a freshly formatted volume (store/specs/Sequences.antt has the statement).
-use Prim.Native.Nat.{ℕ, zero, suc, _+_, _<_}
-use mathlib.Core.Path.{_≡_, refl, sym, _∙_, ap, ap₂, subst, subst₂}
-use mathlib.Core.Bool.{Bool, true, false, not, _||_}
-use mathlib.Core.List.{List, [], _∷_}
-use mathlib.Core.Logic.{inl, inr}
-use native.Mathlib.Omega.{arith}
-use lib.Dec.{eqb}
-use borrow.Author.Tests.{not-false}
-use lib.ListN.{length, replicate}
-use Rattle.lists.specs.Lists.{any, keep, Permutation, nil}
-use Rattle.records.specs.Numbers.{outcomeNumbers}
-use Rattle.records.specs.Slots.{openUsed}
-use Rattle.tables.specs.Tables.{streamAt}
-use Rattle.records.specs.Namespace.{namespace}
-use Rattle.records.specs.Checked.{Checked, refused, passed, _>>_, refuseIf}
-use Rattle.records.proofs.Checked.{refuse-passed, test-passed}
-use Rattle.records.specs.declared.Status.{Status}
-use Rattle.records.specs.declared.Status.the-variants.{FileCorruptError, InvalidParameter}
-use Rattle.records.specs.declared.Outcome.{Outcome}
-use Rattle.records.specs.declared.Outcome.the-variants.{Success, Done, Refused}
-use Rattle.records.specs.declared.StreamNo.{StreamNo}
-use Rattle.records.specs.declared.OpenTable.{OpenTable}
-use Rattle.records.specs.declared.Volume.{Volume}
-use Rattle.sharing.specs.Sharing.{countsOf}
-use Rattle.sharing.proofs.Counts.{counts-perm}
-use Rattle.consistency.specs.Relations.{validMasks, live}
-use Rattle.consistency.specs.Consistent.{Consistent, openAt}
-use Rattle.format.specs.Format.{rightLengths, checkedMasks, formatAnswer, format, freshVolume, freshOpens}
+use Prim.Native.Nat.{_<_, suc, zero, ℕ}
+use Rattle.consistency.specs.Relations.{live, validMasks}
+use Rattle.consistency.specs.Test.{handlesDiffer, opensAgree, opensTest}
 use Rattle.format.proofs.Fresh.{fresh-consistent}
-use Rattle.store.specs.Model.{Model, Reply, Step, modelFormatted, modelFormat}
-use Rattle.store.specs.Calls.{Call, Tables, answered, Run, run, storeStep, modelStep}
-use Rattle.store.specs.Sequences.{isCorrupt, handleOf, issued, numbersFrom, Agree, EverySequence}
-use Rattle.store.proofs.Sequences.Opens.Pairwise.{perm-apart}
+use Rattle.format.specs.Format.{checkedMasks, format, freshTables, freshVolume, rightLengths}
+use Rattle.lists.proofs.Tests.{and-both, not-is, and-iff}
+use Rattle.lists.specs.Lists.{all, any, keep, nil, pairs}
+use Rattle.records.specs.Checked.{_>>_, _>>_, passed, refuseIf}
+use Rattle.records.specs.Numbers.{Reply}
+use Rattle.records.specs.Slots.{openUsed}
+use Rattle.records.specs.State.{done, Step, Tables, concluded}
+use Rattle.records.specs.declared.Outcome.the-variants.{Done, Refused}
+use Rattle.records.specs.declared.Status.the-variants.{FileCorruptError, InvalidParameter}
+use Rattle.records.specs.declared.Status.{Status}
+use Rattle.records.specs.declared.StreamNo.{StreamNo}
+use Rattle.sharing.proofs.Counts.{counts-perm}
+use Rattle.sharing.specs.Sharing.{countsOf}
+use Rattle.store.proofs.Sequences.Steps.{Issues, together}
 use Rattle.store.proofs.Sequences.Views.{Related}
-use Rattle.store.proofs.Sequences.Violation.{share-right, violation}
-use Rattle.store.proofs.Sequences.Steps.{Issues, Together, together}
+use Rattle.store.proofs.Sequences.Violation.{from-check, share-right, violation}
+use Rattle.store.specs.Calls.{Call, Run, modelStep, run, storeStep}
+use Rattle.store.specs.Complete.{nextHandle}
+use Rattle.store.specs.Model.{Model, freshModel, modelFormat}
+use Rattle.store.specs.Sequences.{Agree, EverySequence, handleOf, isCorrupt, issued, numbersFrom}
+use Rattle.tables.specs.Tables.{streamAt}
+use borrow.Author.Tests.{ne-eqb, eq-eqb, eqb-false, eqb-true}
+use lib.Dec.{eqb}
+use lib.ListN.{length}
+use mathlib.Core.Bool.{_||_, Bool, false, not, true}
+use mathlib.Core.List.{[], _∷_, List}
+use mathlib.Core.Logic.{inl, inr}
+use mathlib.Core.Path.{_∙_, _≡_, _≡_, ap, ap₂, refl, subst, subst₂, sym}
+use native.Mathlib.Omega.{arith}
+use Rattle.consistency.proofs.Opens.{opens-complete}
+use Rattle.lists.proofs.PairsPerm.{perm-pairs}
+use Rattle.records.specs.declared.Open.{Open}
+use Rattle.sharing.proofs.PairRule.{conflicting-sym}
 
 refused≢done : {s : Status} → Refused s ≡ Done → ⊥
 refused≢done e = let z : _≡_ {A = ℕ} 0 1 = cc in omega arith
@@ -80,56 +81,86 @@ module _ {t : Tables} {m : Model} (related : Related t m) where
   counts-theirs : (s : StreamNo) → s .0 < length (t .volume .streams) → streamAt (t .volume .streams) s .counts ≡ countsOf s (m .entries)
   counts-theirs s b = related .consistentTables .counts s b ∙ counts-perm (related .opensAreEntries) s
 
+-- numbers in order are different
+numbers-above : (k n j : ℕ) → j < k → all (λ i. not (eqb j i)) (numbersFrom k n) ≡ true
+unfolding all numbersFrom
+numbers-above k zero j h = refl
+numbers-above k (suc n) j h = and-both (not-is (ne-eqb j k (λ e. let z : ⊥ = omega arith in z))) (numbers-above (suc k) n j (omega arith))
+
+numbers-differ : (k n : ℕ) → pairs (λ h i. not (eqb h i)) (numbersFrom k n) ≡ true
+unfolding pairs numbersFrom
+numbers-differ k zero = refl
+numbers-differ k (suc n) = and-both (numbers-above (suc k) n k (omega arith)) (numbers-differ (suc k) n)
+
 -- format gives related states
-fresh-related : (masks : List ℕ) (readOnly : Bool) → validMasks masks ≡ true
-    → Related (record { volume = freshVolume masks readOnly; opens = freshOpens })
-    (record { names = namespace (freshVolume masks readOnly); count = 0; entries = [] })
-unfolding live keep openUsed freshVolume
+fresh-related : (masks : List ℕ) (readOnly : Bool) → validMasks masks ≡ true → Related (freshTables masks readOnly) (freshModel masks readOnly)
+unfolding live keep openUsed freshVolume freshTables freshModel
 fresh-related masks readOnly v =
-    record { consistentTables = fresh-consistent masks readOnly v; opensAreEntries = nil; sameNames = refl; nextHandle = refl }
+    record { consistentTables = fresh-consistent masks readOnly v; opensAreEntries = nil; sameNamespace = refl; nextHandle = refl }
 
 -- a format that succeeded had valid masks, and left fresh tables
-formatted : (v : Volume) (t : OpenTable) (masks : List ℕ) (readOnly : Bool) → format v t masks readOnly .outcome ≡ Done
-    → (validMasks masks ≡ true)
-    × (answered (format v t masks readOnly) .state ≡ record { volume = freshVolume masks readOnly; opens = freshOpens })
-unfolding format formatAnswer answered checkedMasks
-formatted v t masks readOnly h = go (refuseIf (not (rightLengths v t)) FileCorruptError >> checkedMasks masks) refl h
+formatted : (t : Tables) (masks : List ℕ) (readOnly : Bool) → format t masks readOnly .reply .outcome ≡ Done
+    → (validMasks masks ≡ true) × (format t masks readOnly .state ≡ freshTables masks readOnly)
+unfolding format checkedMasks concluded refuseIf _>>_
+formatted t masks readOnly h = go (rightLengths (t .volume) (t .opens)) (validMasks masks) refl h
   where
-    go : (c : Checked (Unit {0})) → (refuseIf (not (rightLengths v t)) FileCorruptError >> checkedMasks masks) ≡ c
-        → formatAnswer v t masks readOnly c .outcome ≡ Done
-        → (validMasks masks ≡ true)
-        × (answered (formatAnswer v t masks readOnly c) .state ≡ record { volume = freshVolume masks readOnly; opens = freshOpens })
-    go (refused s) e k = absurd (refused≢done k)
-    go (passed u) e k = (not-false (validMasks masks) (refuse-passed _ _ (test-passed _ _ _ e .1)), refl)
+    go : (a b : Bool) → validMasks masks ≡ b
+        → concluded t (refuseIf (not a) FileCorruptError >> (refuseIf (not b) InvalidParameter >> passed (done (freshTables masks readOnly)))) .reply .outcome ≡ Done
+        → (b ≡ true) × (concluded t (refuseIf (not a) FileCorruptError >> (refuseIf (not b) InvalidParameter >> passed (done (freshTables masks readOnly)))) .state ≡ freshTables masks readOnly)
+    go true true e k = (refl, refl)
+    go true false e k = absurd (refused≢done k)
+    go false b e k = absurd (refused≢done k)
 
 model-formatted : (m : Model) (masks : List ℕ) (readOnly : Bool) → validMasks masks ≡ true
-    → modelFormat m masks readOnly .state ≡ record { names = namespace (freshVolume masks readOnly); count = 0; entries = [] }
-unfolding modelFormat modelFormatted checkedMasks refuseIf
-model-formatted m masks readOnly v = ap (λ (b : Bool). modelFormatted m masks readOnly (refuseIf (not b) InvalidParameter) .state) v
+    → modelFormat m masks readOnly .state ≡ freshModel masks readOnly
+unfolding modelFormat checkedMasks concluded refuseIf _>>_
+model-formatted m masks readOnly v = rw v
+
+-- that no two conflict does not depend on their order
+eqb-swap : (m n : ℕ) → eqb m n ≡ eqb n m
+eqb-swap m n = go (eqb m n) refl
+  where
+    go : (b : Bool) → eqb m n ≡ b → b ≡ eqb n m
+    go true e = sym (eq-eqb n m (sym (eqb-true m n e)))
+    go false e = sym (ne-eqb n m (λ q. eqb-false m n e (sym q)))
+
+agree-swap : (o q : Open) → opensAgree o q ≡ opensAgree q o
+unfolding opensAgree
+agree-swap o q = rw (eqb-swap (o .stream .0) (q .stream .0), conflicting-sym o q)
+
+no-conflict : {t : Tables} {m : Model} → Related t m → pairs opensAgree (m .entries) ≡ true
+unfolding opensTest
+no-conflict {t} {m} related =
+    sym (perm-pairs opensAgree agree-swap (related .opensAreEntries))
+    ∙ (simp (opensTest, and-iff) at (opens-complete _ _ _ (related .consistentTables .opens))) .1
 
 -- all that the statement asks follows from a run that began with no handle issued
 agree : (m : Model) → m .count ≡ 0 → (s : Run Tables) (r : Run Model) → Ran m s r → Agree s r
 agree m unissued s r q =
     let related = q .relatedAfter in
+    let inOrder : issued (s .replies) ≡ numbersFrom 1 (length (issued (s .replies))) =
+    subst (λ (rs : List Reply). issued rs ≡ numbersFrom 1 (length (issued rs))) (sym (q .sameReplies))
+    (q .handlesInOrder ∙ ap (λ (n : ℕ). numbersFrom (suc n) (length (issued (r .replies)))) unissued) in
     record {
       neverCorrupt = ap (any isCorrupt) (q .sameReplies) ∙ q .neverCorrupt;
       sameReplies = q .sameReplies;
       tablesConsistent = related .consistentTables;
       opensAreEntries = related .opensAreEntries;
       countsAreTheirs = counts-theirs related;
-      sameNames = related .sameNames;
+      sameNamespace = related .sameNamespace;
       nextHandle = related .nextHandle;
-      noConflict = λ i j l b e. perm-apart (related .consistentTables .opens) (related .opensAreEntries) i j l b .noConflict e;
+      noConflict = no-conflict related;
       shareCheckRight = share-right related;
       violationExactly = violation related;
-      handlesInOrder =
-          subst (λ (rs : List Reply). issued rs ≡ numbersFrom 1 (length (issued rs))) (sym (q .sameReplies))
-          (q .handlesInOrder ∙ ap (λ (n : ℕ). numbersFrom (suc n) (length (issued (r .replies)))) unissued);
+      violationOnlyThere = λ x units e. let w = from-check (s .state) (related .consistentTables) x units e in (w .0, w .1);
+      handlesInOrder = inOrder;
+      handlesDiffer = ap (pairs (λ h k. not (eqb h k))) inOrder ∙ numbers-differ 1 (length (issued (s .replies)));
     }
 
 pub every-sequence : EverySequence
-every-sequence v t m masks readOnly done calls =
-    let f = formatted v t masks readOnly done in
+unfolding freshModel
+every-sequence t m masks readOnly accepted calls =
+    let f = formatted t masks readOnly accepted in
     let g = model-formatted m masks readOnly (f .0) in
     subst₂ (λ (x : Tables) (y : Model). Agree (run storeStep x calls) (run modelStep y calls)) (sym (f .1)) (sym g)
-    (agree _ refl _ _ (ran _ _ (fresh-related masks readOnly (f .0)) calls))
+    (agree (freshModel masks readOnly) refl _ _ (ran _ _ (fresh-related masks readOnly (f .0)) calls))

@@ -1,45 +1,51 @@
 -- The tables and the model that they are related to answer every question about the opens alike, so that the twelve
--- steps decide alike.
-use Prim.Native.Nat.{ℕ, suc, _<_}
-use mathlib.Core.Path.{_≡_, refl, sym, _∙_, ap, ap₂, subst}
-use mathlib.Core.Bool.{Bool, true, false, not}
-use mathlib.Core.List.{List, [], _∷_}
-use lib.Dec.{eqb, ltb}
-use lib.ListN.{length, length-map}
-use Rattle.lists.specs.Lists.{any, count, keep, Permutation}
+-- steps, and a close, are decided alike.
+use Prim.Native.Nat.{_<_, suc, ℕ}
+use Rattle.consistency.specs.Consistent.{Consistent}
+use Rattle.consistency.specs.Relations.{live}
 use Rattle.lists.proofs.Counting.{count-fewer}
+use Rattle.lists.proofs.FirstElement.{find-keep, perm-find}
 use Rattle.lists.proofs.Keep.{length-keep}
 use Rattle.lists.proofs.Permutations.{perm-any, perm-length}
-use Rattle.records.specs.Sizes.{openSlots, lastHandle}
-use Rattle.records.specs.Slots.{openUsed}
-use Rattle.tables.specs.Tables.{streamAt}
-use Rattle.records.specs.Namespace.{Namespace, namespace, bare}
-use Rattle.records.specs.Checked.{Checked, refused, passed, _>>=_, _>>_, refuseIf}
-use Rattle.records.specs.declared.Status.the-variants.{SharingViolation, TooManyOpenedFiles, InsufficientResources}
-use Rattle.records.specs.declared.CreateAction.the-variants.{Created}
-use Rattle.records.specs.declared.StreamNo.{StreamNo}
-use Rattle.records.specs.declared.Open.{Open}
-use Rattle.records.specs.declared.OpenTable.{OpenTable}
-use Rattle.records.specs.declared.Volume.{Volume}
-use Rattle.sharing.specs.Sharing.{anyConflict, countsOf, shareCheck}
-use Rattle.sharing.proofs.Counts.{counts-perm}
-use Rattle.sharing.proofs.Check.{share-check-right}
-use Rattle.consistency.specs.Relations.{live}
-use Rattle.consistency.specs.Consistent.{Consistent, CountsTrue}
-use Rattle.consistency.proofs.Derived.{stream-below}
-use Rattle.store.specs.Prepare.{Existing, Pending, existing, creating}
-use Rattle.store.specs.Complete.{View, Placed, Decision, decided, shareOf, place, nextHandle, attributeChange, complete}
+use Rattle.lists.specs.Lists.{Permutation, any, count}
 use Rattle.open_table.specs.Rows.{anyOnFile}
-use Rattle.store.specs.Store.{storeView}
+use Rattle.records.proofs.Checked.{Ends, went}
+use Rattle.records.specs.Checked.{Checked, _>>=_, _>>_, passed, refuseIf, refused, someOr}
+use Rattle.records.specs.Namespace.{Namespace, namespace}
+use Rattle.records.specs.Sizes.{lastHandle, openSlots}
+use Rattle.records.specs.Slots.{openUsed}
+use Rattle.records.specs.State.{Tables}
+use Rattle.records.specs.Terms.{Terms}
+use Rattle.records.specs.declared.CreateAction.the-variants.{Created}
+use Rattle.records.specs.declared.Handle.{Handle}
+use Rattle.records.specs.declared.Open.{Open}
+use Rattle.records.specs.declared.Request.{Request}
+use Rattle.records.specs.declared.Status.the-variants.{InsufficientResources, InvalidHandle, SharingViolation, TooManyOpenedFiles}
+use Rattle.records.specs.declared.StreamNo.{StreamNo}
+use Rattle.sharing.proofs.Check.{share-check-right}
+use Rattle.sharing.proofs.Counts.{counts-perm}
+use Rattle.sharing.specs.Sharing.{anyConflict, shareCheck}
+use Rattle.store.proofs.Sequences.Facts.{Early, ExistingFits, PendingFits, namespace-of}
+use Rattle.store.proofs.Sequences.Opens.Close.{handle-used, one-handle, struck}
+use Rattle.store.proofs.Sequences.Opens.Names.{used-below}
+use Rattle.store.proofs.Sequences.Prepared.{prepare-ends}
+use Rattle.store.specs.Complete.{nextHandle, View, complete, decide, decideClose, noChange, place, placeExisting, shareOf}
 use Rattle.store.specs.Model.{Model, modelView}
-use Rattle.store.specs.Calls.{Tables}
-use Rattle.store.proofs.Sequences.Facts.{ExistingFits, PendingFits}
+use Rattle.store.specs.Prepare.{Existing, Pending, creating, existing, prepare}
+use Rattle.store.specs.Store.{hasHandle, storeView}
+use Rattle.tables.specs.Tables.{streamAt}
+use lib.Dec.{eqb, ltb}
+use lib.ListN.{length}
+use mathlib.Core.Bool.{Bool, not, true}
+use mathlib.Core.List.{[], _∷_, List}
+use mathlib.Core.Option.{Option}
+use mathlib.Core.Path.{_∙_, _≡_, ap, ap₂, refl, subst, sym}
 
 -- tables and a model that hold the same
 pub record Related (t : Tables) (m : Model) : Type 0 where
   pub consistentTables : Consistent (t .volume) (t .opens)
   pub opensAreEntries : Permutation (live (t .opens .rows)) (m .entries)
-  pub sameNames : namespace (t .volume) ≡ m .names
+  pub sameNamespace : namespace (t .volume) ≡ m .namespace
   pub nextHandle : t .volume .«next_handle» .0 ≡ suc (m .count)
 
 -- some place fails a test exactly when fewer pass than there are
@@ -54,11 +60,11 @@ any-fails {A} p xs =
 
 module _ {t : Tables} {m : Model} (related : Related t m) where
   -- the share check from the counts says what comparing with each entry says
-  pub conflicts-agree : (s : StreamNo) → s .0 < length (t .volume .streams) → (granted share : ℕ)
-      → shareCheck (streamAt (t .volume .streams) s .counts) granted share ≡ anyConflict s granted share (m .entries)
-  conflicts-agree s b granted share =
-      ap (λ c. shareCheck c granted share) (related .consistentTables .counts s b ∙ counts-perm (related .opensAreEntries) s)
-      ∙ share-check-right s (m .entries) granted share
+  pub conflicts-agree : (s : StreamNo) → s .0 < length (t .volume .streams) → (terms : Terms)
+      → shareCheck (streamAt (t .volume .streams) s .counts) terms ≡ anyConflict s terms (m .entries)
+  conflicts-agree s b terms =
+      ap (λ c. shareCheck c terms) (related .consistentTables .counts s b ∙ counts-perm (related .opensAreEntries) s)
+      ∙ share-check-right s (m .entries) terms
 
   room-agrees : any (λ o. not (openUsed o)) (t .opens .rows) ≡ ltb (length (m .entries)) openSlots
   unfolding live
@@ -69,40 +75,38 @@ module _ {t : Tables} {m : Model} (related : Related t m) where
 
 -- what completing a pending open asks
 pub record Alike (view view′ : View) (p : Pending) : Type 0 where
-  pub conflicts : (e : Existing) → p ≡ existing e
-      → view .conflicts (e .stream) (e .granted) (e .share) ≡ view′ .conflicts (e .stream) (e .granted) (e .share)
+  pub conflicts : (e : Existing) → p ≡ existing e → view .conflicts (e .stream) (e .terms) ≡ view′ .conflicts (e .stream) (e .terms)
   pub fileOpen : (e : Existing) → p ≡ existing e → view .fileOpen (e .file) ≡ view′ .fileOpen (e .file)
   pub room : view .room ≡ view′ .room
   pub next : view .next ≡ view′ .next
 
 -- step 12's slot and handle, of a view's two answers
-abbrev slot : Bool → ℕ → Checked ℕ
+abbrev slot : Bool → ℕ → Checked Handle
 slot room next =
-    refuseIf (not room) TooManyOpenedFiles >> (refuseIf (eqb next lastHandle) InsufficientResources >> passed next)
+    refuseIf (not room) TooManyOpenedFiles
+    >> (refuseIf (eqb next lastHandle) InsufficientResources >> passed (record { 0 = next }))
 
-pub completed-alike : (view view′ : View) (ns : Namespace) (p : Pending) → Alike view view′ p → complete view ns p ≡ complete view′ ns p
+completed-alike : (view view′ : View) (ns : Namespace) (p : Pending) → Alike view view′ p → complete view ns p ≡ complete view′ ns p
 unfolding complete nextHandle
 completed-alike view view′ ns (existing e) alike =
     λ i.
     refuseIf (alike .conflicts e refl i) SharingViolation
-    >> (shareOf (e .readSharing) (not (alike .fileOpen e refl i)) (e .share)
-    >>= (λ share. slot (alike .room i) (alike .next i)
-    >>= (λ handle.
-    passed
-    (decided (e .action) (attributeChange ns (e .file) (e .attributes)) (e .file) (e .stream) (e .granted) share handle))))
-completed-alike view view′ ns (creating c granted share) alike =
+    >> (shareOf (e .readSharing) (not (alike .fileOpen e refl i)) (e .terms)
+    >>= (λ terms. slot (alike .room i) (alike .next i)
+    >>= (λ handle. passed (record { action = e .action; placed = placeExisting ns e; terms = terms; handle = handle }))))
+completed-alike view view′ ns (creating c terms) alike =
     λ i.
     place ns c
-    >>= (λ p. slot (alike .room i) (alike .next i)
-    >>= (λ handle. passed (decided Created (p .change) (p .file) (p .stream) granted share handle)))
+    >>= (λ placed. slot (alike .room i) (alike .next i)
+    >>= (λ handle. passed (record { action = Created; placed = placed; terms = terms; handle = handle })))
 
--- related tables and model answer alike what a fitting pending open asks
+-- related tables and model answer alike
 module _ {t : Tables} {m : Model} (related : Related t m) where
-  pub views-alike : (p : Pending) → PendingFits (namespace (t .volume)) p → Alike (storeView (t .volume) (t .opens)) (modelView m) p
+  pub views-alike : (p : Pending) → PendingFits (namespace (t .volume)) p → Alike (storeView t) (modelView m) p
   unfolding storeView modelView anyOnFile namespace
   views-alike p fits =
       record {
-        conflicts = λ e q. conflicts-agree related (e .stream) (below e (fits-existing q)) (e .granted) (e .share);
+        conflicts = λ e q. conflicts-agree related (e .stream) (below e (fits-existing q)) (e .terms);
         fileOpen = λ e q. perm-any (λ o. eqb (o .file .0) (e .file .0)) (related .opensAreEntries);
         room = room-agrees related;
         next = related .nextHandle;
@@ -112,7 +116,35 @@ module _ {t : Tables} {m : Model} (related : Related t m) where
       fits-existing q = subst (λ (x : Pending). PendingFits (namespace (t .volume)) x) q fits
 
       below : (e : Existing) → ExistingFits (namespace (t .volume)) e → e .stream .0 < length (t .volume .streams)
-      below e f =
-          subst (λ (n : ℕ). e .stream .0 < n)
-          (sym (related .consistentTables .streams .size) ∙ length-map (t .volume .streams) bare)
-          (stream-below (related .consistentTables .streams) (e .stream) (f .streamUsed))
+      below e f = used-below (t .volume .streams) (e .stream) (f .streamUsed)
+
+  pub room-same : storeView t .room ≡ modelView m .room
+  unfolding storeView modelView
+  room-same = room-agrees related
+
+  -- the twelve steps
+  pub decided-alike : (r : Request) (units : List ℕ)
+      → decide (storeView t) (namespace (t .volume)) r units ≡ decide (modelView m) (m .namespace) r units
+  unfolding decide _>>=_
+  decided-alike r units =
+      go (prepare ns r units) (prepare-ends ns r units (namespace-of (related .consistentTables)))
+      ∙ ap (λ (n : Namespace). prepare n r units >>= complete (modelView m) n) (related .sameNamespace)
+    where
+      ns : Namespace
+      ns = namespace (t .volume)
+
+      go : (c : Checked Pending) → Ends Early (PendingFits ns) c → (c >>= complete (storeView t) ns) ≡ (c >>= complete (modelView m) ns)
+      go (refused r) h = refl
+      go (passed p) h = completed-alike (storeView t) (modelView m) ns p (views-alike p (went h))
+
+  -- a close: no two entries have one handle
+  opens-same : (h : Handle) → storeView t .openOf h ≡ modelView m .openOf h
+  unfolding storeView modelView live
+  opens-same h =
+      sym (find-keep (hasHandle h) openUsed (handle-used h) (t .opens .rows))
+      ∙ perm-find (hasHandle h) (related .opensAreEntries) (one-handle h (related .consistentTables .opens))
+
+  pub closing-alike : (h : Handle) → decideClose (storeView t) h ≡ decideClose (modelView m) h
+  unfolding decideClose
+  closing-alike h =
+      ap (λ (o : Option Open). someOr InvalidHandle o >>= (λ q. passed (record { struck = q; change = noChange }))) (opens-same h)

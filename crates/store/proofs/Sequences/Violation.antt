@@ -1,90 +1,96 @@
--- For an open that reaches the sharing check, the share check says what comparing it with each entry on the stream says,
--- and SHARING_VIOLATION comes exactly when one conflicts.
+-- SHARING_VIOLATION: it comes from no open that does not reach the sharing check. For one that does, the share check says
+-- what comparing it with each entry on the stream says, and the status comes exactly when one conflicts.
 use Prim.Native.Nat.{ℕ}
-use mathlib.Core.Path.{_≡_, refl, sym, _∙_, ap}
-use mathlib.Core.Bool.{Bool, true, false, not, false≢true}
+use Rattle.consistency.specs.Consistent.{Consistent}
+use Rattle.records.proofs.Checked.{Ends, bind-of, passed-same, refused-same, stopped, test-refuses, went}
+use Rattle.records.specs.Checked.{Checked, Refusal, _>>=_, _>>=_, passed, refused}
+use Rattle.records.specs.Namespace.{Namespace, namespace}
+use Rattle.records.specs.State.{Step, Tables, concluded}
+use Rattle.records.specs.declared.Outcome.the-variants.{Refused}
+use Rattle.records.specs.declared.Request.{Request}
+use Rattle.records.specs.declared.Status.the-variants.{SharingViolation}
+use Rattle.records.specs.declared.Status.{Status}
+use Rattle.sharing.specs.Sharing.{anyConflict, shareCheck}
+use Rattle.store.proofs.Sequences.Completed.{DecisionFits, Late, complete-ends, not-sharing}
+use Rattle.store.proofs.Sequences.Facts.{Early, PendingFits, namespace-of}
+use Rattle.store.proofs.Sequences.Opens.Names.{used-below}
+use Rattle.store.proofs.Sequences.Prepared.{prepare-ends, prepared}
+use Rattle.store.proofs.Sequences.Steps.{when-consistent}
+use Rattle.store.proofs.Sequences.Views.{Related, conflicts-agree}
+use Rattle.store.specs.Complete.{Decision, complete, decide}
+use Rattle.store.specs.Model.{Model}
+use Rattle.store.specs.Prepare.{Existing, Pending, existing, prepare}
+use Rattle.store.specs.Store.{opened, storeOpen, storeView}
+use Rattle.tables.specs.Tables.{streamAt}
+use mathlib.Core.Bool.{true}
 use mathlib.Core.List.{List}
 use mathlib.Core.Logic.{_↔_}
+use mathlib.Core.Path.{_∙_, _≡_, _≡_, ap, refl, subst, sym}
 use native.Mathlib.Omega.{arith}
-use Rattle.records.specs.Numbers.{statusNumber}
-use Rattle.tables.specs.Tables.{streamAt}
-use Rattle.records.specs.Namespace.{Namespace, namespace}
-use Rattle.records.specs.Checked.{Checked, refused, passed, _>>_}
-use Rattle.records.specs.declared.Status.{Status}
-use Rattle.records.specs.declared.Status.the-variants.{SharingViolation}
-use Rattle.records.specs.declared.Outcome.{Outcome}
-use Rattle.records.specs.declared.Outcome.the-variants.{Success, Refused}
-use Rattle.records.specs.declared.Volume.{Volume}
-use Rattle.records.specs.declared.OpenTable.{OpenTable}
-use Rattle.records.specs.declared.Request.{Request}
-use Rattle.records.specs.declared.Answer.{Answer}
-use Rattle.records.proofs.Checked.{test-refuses, test-passes, bind-of}
-use Rattle.sharing.specs.Sharing.{anyConflict, shareCheck}
-use Rattle.consistency.specs.Consistent.{Consistent}
-use Rattle.store.specs.Prepare.{Existing, existing, prepare}
-use Rattle.store.specs.Complete.{View, Decision, complete, decide}
-use Rattle.store.specs.Store.{refusal, whenConsistent, storeView, openConcluded, openAnswer}
-use Rattle.store.specs.Model.{Model}
-use Rattle.store.specs.Calls.{Tables}
-use Rattle.store.proofs.Sequences.Prepared.{prepared}
-use Rattle.store.proofs.Sequences.Opens.Names.{used-below}
-use Rattle.store.proofs.Sequences.Views.{Related, conflicts-agree}
-use Rattle.store.proofs.Sequences.Statuses.{other, spares, spares-refusal, spares-bind, spares-passed, share-spares, handle-spares}
-use Rattle.store.proofs.Sequences.Steps.{names-of, when-consistent}
 
 -- only a refused decision is answered by a refusal
-concluded-refused : (v : Volume) (t : OpenTable) (c : Checked Decision) (s : Status) → openConcluded v t c .outcome ≡ Refused s → c ≡ refused s
-unfolding openConcluded refusal
-concluded-refused v t (refused q) s e = ap refused (let h : q ≡ s = cc in h)
-concluded-refused v t (passed d) s e = absurd (let z : _≡_ {A = ℕ} 0 1 = cc in let w : ⊥ = omega arith in w)
+refused-by : (t : Tables) (c : Checked Decision) (s : Status)
+    → concluded t (c >>= (λ d. passed (opened t d))) .reply .outcome ≡ Refused s → (r : Refusal) × (c ≡ refused r) × (r .status ≡ s)
+unfolding concluded opened _>>=_
+refused-by t (refused r) s e = (r, refl, let h : r .status ≡ s = cc in h)
+refused-by t (passed d) s e = absurd (let z : _≡_ {A = ℕ} 0 1 = cc in let w : ⊥ = omega arith in w)
 
-module _ (v : Volume) (t : OpenTable) (r : Request) (units : List ℕ) (e : Existing) (ok : Consistent v t)
-    (reaches : prepare (namespace v) r units ≡ passed (existing e)) where
-  answers : openAnswer v t r units ≡ openConcluded v t (complete (storeView v t) (namespace v) (existing e))
-  unfolding openAnswer decide
-  answers = when-consistent v t ok _ ∙ ap (openConcluded v t) (bind-of (complete (storeView v t) (namespace v)) reaches)
+module _ (t : Tables) (ok : Consistent (t .volume) (t .opens)) (r : Request) (units : List ℕ) where
+  abbrev ns : Namespace
+  ns = namespace (t .volume)
 
-  unstopped : storeView v t .conflicts (e .stream) (e .granted) (e .share) ≡ false
-      → complete (storeView v t) (namespace v) (existing e) ≡ refused SharingViolation → ⊥
-  unfolding complete statusNumber
-  unstopped c q =
-      false≢true
-      (spares-refusal 0xC0000043 _ SharingViolation
-      (spares-bind 0xC0000043 _ _ (share-spares 0xC0000043 refl (e .readSharing) _ (e .share))
-      (λ s k. spares-bind 0xC0000043 _ _ (handle-spares 0xC0000043 refl refl (storeView v t)) (λ h z. spares-passed 0xC0000043 _)))
-      (sym (test-passes SharingViolation _ c) ∙ q))
+  answers : storeOpen t r units ≡ concluded t (decide (storeView t) ns r units >>= (λ d. passed (opened t d)))
+  unfolding storeOpen
+  answers = when-consistent t ok _
 
-  exactly : (openAnswer v t r units .outcome ≡ Refused SharingViolation)
-      ↔ (storeView v t .conflicts (e .stream) (e .granted) (e .share) ≡ true)
-  unfolding complete openConcluded refusal
-  exactly = (
+  -- where it comes from
+  pub from-check : storeOpen t r units .reply .outcome ≡ Refused SharingViolation
+      → (e : Existing) × (prepare ns r units ≡ passed (existing e)) × (storeView t .conflicts (e .stream) (e .terms) ≡ true)
+  unfolding decide _>>=_
+  from-check o =
+      let q = refused-by t _ SharingViolation (sym (ap (λ (s : Step Tables). s .reply .outcome) answers) ∙ o) in
+      go (prepare ns r units) refl (prepare-ends ns r units (namespace-of ok)) (q .0) (q .1) (q .2)
+    where
+      go : (c : Checked Pending) → prepare ns r units ≡ c → Ends Early (PendingFits ns) c → (s : Refusal)
+          → (c >>= complete (storeView t) ns) ≡ refused s → s .status ≡ SharingViolation
+          → (e : Existing) × (prepare ns r units ≡ passed (existing e)) × (storeView t .conflicts (e .stream) (e .terms) ≡ true)
+      go (refused q) p h s e v = absurd (not-sharing q (stopped h) (ap (λ (x : Refusal). x .status) (refused-same e) ∙ v))
+      go (passed x) p h s e v =
+          let late = stopped (subst (Ends (Late (storeView t) x) (DecisionFits ns (storeView t))) e (complete-ends (storeView t) ns x (namespace-of ok) (went h))) in
+          let w = late .sharing v in
+          (w .0, p ∙ ap passed (w .1), w .2)
+
+  pub exactly : (e : Existing) → prepare ns r units ≡ passed (existing e)
+      → (storeOpen t r units .reply .outcome ≡ Refused SharingViolation) ↔ (storeView t .conflicts (e .stream) (e .terms) ≡ true)
+  unfolding decide complete concluded _>>=_
+  exactly e reaches = (
     λ o.
-        go (storeView v t .conflicts (e .stream) (e .granted) (e .share)) refl
-        (concluded-refused v t _ SharingViolation (sym (ap (λ (a : Answer). a .outcome) answers) ∙ o)),
-    λ c. ap (λ (a : Answer). a .outcome) (answers ∙ ap (openConcluded v t) (test-refuses SharingViolation _ c)),
+        let w = from-check o in
+        let same : w .0 ≡ e = existing-same (passed-same (sym (w .1) ∙ reaches)) in
+        subst (λ (x : Existing). storeView t .conflicts (x .stream) (x .terms) ≡ true) same (w .2),
+    λ c.
+        ap (λ (s : Step Tables). s .reply .outcome)
+        (answers
+        ∙ ap (λ (x : Checked Decision). concluded t (x >>= (λ d. passed (opened t d))))
+        (bind-of (complete (storeView t) ns) reaches ∙ test-refuses SharingViolation _ c)),
   )
     where
-      go : (b : Bool) → storeView v t .conflicts (e .stream) (e .granted) (e .share) ≡ b
-          → complete (storeView v t) (namespace v) (existing e) ≡ refused SharingViolation
-          → storeView v t .conflicts (e .stream) (e .granted) (e .share) ≡ true
-      go true k q = k
-      go false k q = absurd (unstopped k q)
+      existing-same : {x y : Existing} → existing x ≡ existing y → x ≡ y
+      existing-same q = cc
 
 module _ {t : Tables} {m : Model} (related : Related t m) (r : Request) (units : List ℕ) (e : Existing)
     (reaches : prepare (namespace (t .volume)) r units ≡ passed (existing e)) where
   -- its stream is a used one, so its counts are those of the entries
-  pub share-right : shareCheck (streamAt (t .volume .streams) (e .stream) .counts) (e .granted) (e .share)
-      ≡ anyConflict (e .stream) (e .granted) (e .share) (m .entries)
+  pub share-right : shareCheck (streamAt (t .volume .streams) (e .stream) .counts) (e .terms) ≡ anyConflict (e .stream) (e .terms) (m .entries)
   unfolding namespace
   share-right =
       conflicts-agree related (e .stream)
       (used-below (t .volume .streams) (e .stream)
-      (prepared (namespace (t .volume)) r units (existing e) (names-of (related .consistentTables)) reaches .streamUsed))
-      (e .granted) (e .share)
+      (prepared (namespace (t .volume)) r units (existing e) (namespace-of (related .consistentTables)) reaches .streamUsed))
+      (e .terms)
 
-  pub violation : (openAnswer (t .volume) (t .opens) r units .outcome ≡ Refused SharingViolation)
-      ↔ (anyConflict (e .stream) (e .granted) (e .share) (m .entries) ≡ true)
+  pub violation : (storeOpen t r units .reply .outcome ≡ Refused SharingViolation) ↔ (anyConflict (e .stream) (e .terms) (m .entries) ≡ true)
   unfolding storeView
   violation =
-      let x = exactly (t .volume) (t .opens) r units e (related .consistentTables) reaches in
+      let x = exactly t (related .consistentTables) r units e reaches in
       (λ o. sym share-right ∙ x .0 o, λ c. x .1 (share-right ∙ c))

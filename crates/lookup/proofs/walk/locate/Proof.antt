@@ -1,8 +1,9 @@
 -- `lookup::walk::locate` meets its contract.
 use borrow.Author.Needs.{needs}
 use Rattle.records.specs.Checked.{_>>=_}
+use Rattle.lists.specs.Lists.{isEmpty}
 use Rattle.paths.specs.Positions.{asPath}
-use Rattle.lookup.specs.Lookup.{descend, locateLeaf, locate}
+use Rattle.lookup.specs.Lookup.{locate}
 use Rattle.lookup.specs.Answers.{leafNames, asPlace, locateParsed}
 use Rattle.lookup.proofs.walk.locate.Statement.{statement}
 use Rattle.lookup.proofs.walk.locate.Tie as tie
@@ -24,7 +25,7 @@ unfolding asPlace leafNames locateParsed asPath _>>=_
 returns c = rw (c .enum-told .given .1)
 
 returns-2 : tie.Need-returns-2
-unfolding asPlace leafNames locateParsed asPath descend locateLeaf locate _>>=_
+unfolding asPlace leafNames locateParsed asPath locate isEmpty _>>=_
 returns-2 c = rw (c .enum-told2 .given .1)
 
 returns-3 : tie.Need-returns-3

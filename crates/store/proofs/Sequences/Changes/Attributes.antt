@@ -16,7 +16,7 @@ use Rattle.records.specs.declared.File.{File}
 use Rattle.consistency.proofs.Slots.{same-file}
 use Rattle.consistency.proofs.Numbered.{file-in}
 use Rattle.store.specs.Complete.{changed, withAttributes, attributeChange}
-use Rattle.store.proofs.Sequences.Facts.{NamesConsistent, AttributesFit}
+use Rattle.store.proofs.Sequences.Facts.{NamespaceConsistent, AttributesFit}
 use Rattle.store.proofs.Sequences.Changes.Types.{SameType, is-data, links-kept, streams-kept}
 use Rattle.store.proofs.Sequences.Changes.Files.{FileSound, file-at-new, file-at-other, files-with}
 
@@ -30,7 +30,7 @@ module _ (fs : List File) (f : FileNo) (file : File) (below : f .0 < length fs) 
           rw (same-file g f q) (ap (λ (x : File). x .«file_type») (file-at-new fs f file below) ∙ e)
       go (no q) = ap (λ (x : File). x .«file_type») (file-at-other fs f file below g q)
 
-module _ (ns : Namespace) (f : FileNo) (a : ℕ) (h : NamesConsistent ns) (fit : AttributesFit ns f a) where
+module _ (ns : Namespace) (f : FileNo) (a : ℕ) (h : NamespaceConsistent ns) (fit : AttributesFit ns f a) where
   sound : FileSound (withAttributes a (fileAt (ns .files) f))
   unfolding withAttributes fileUsed isUsed isDirectory
   sound =
@@ -56,7 +56,7 @@ module _ (ns : Namespace) (f : FileNo) (a : ℕ) (h : NamesConsistent ns) (fit :
       ∙ ap (λ (g : FileNo). isDirectory (fileAt (ns .files) g .«file_type»)) (sym (same-file f root e))
       ∙ ap isDirectory (is-data _ (fit .dataFile)))
 
-  pub attributes-kept : NamesConsistent (changed (attributeChange ns f (some a)) ns)
+  pub attributes-kept : NamespaceConsistent (changed (attributeChange ns f (some a)) ns)
   unfolding changed attributeChange writes withAttributes
   attributes-kept =
       let file = withAttributes a (fileAt (ns .files) f) in

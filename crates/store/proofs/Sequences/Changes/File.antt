@@ -15,7 +15,7 @@ use Rattle.records.specs.Slots.{root, zeroFile, zeroLink, isDirectory, fileUsed
 use Rattle.tables.specs.Tables.{fileAt}
 use Rattle.records.specs.Namespace.{Namespace, BareStream, zeroBare, bareUsed, bareAt}
 use Rattle.records.specs.Checked.{passed}
-use Rattle.records.proofs.Checked.{passed-same, bind-passed}
+use Rattle.records.proofs.Checked.{passed-same, bind-passed, Ends, ends-cond, ends-bind, goes}
 use Rattle.records.specs.declared.FileNo.{FileNo}
 use Rattle.records.specs.declared.LinkNo.{LinkNo}
 use Rattle.records.specs.declared.StreamNo.{StreamNo}
@@ -27,37 +27,34 @@ use Rattle.stored_names.proofs.Padded.{file-name-units, units-padded, padded-st
 use Rattle.consistency.specs.Consistent.{StreamsConsistent}
 use Rattle.consistency.proofs.Numbered.{directory-file}
 use Rattle.store.specs.Prepare.{newFile}
-use Rattle.store.specs.Complete.{Placed, changed, streamNew, freeFile, freeLink, freeStream, placeFile, placeStreams, place}
-use Rattle.store.proofs.Sequences.Facts.{NamesConsistent, FileFits, StreamsKept, PlacedWell}
+use Rattle.store.specs.Complete.{Placed, changed, streamNew, freeFile, freeLink, freeStream, placeFile, placeStreams, place, linkNew}
+use Rattle.store.proofs.Sequences.Facts.{NamespaceConsistent, FileFits, StreamsKept, PlacedWell, Early}
 use Rattle.store.proofs.Sequences.Changes.Files.{FileAdded, file-at-new, file-at-other, files-with, not-added, used-kept}
 use Rattle.store.proofs.Sequences.Changes.Free.{file-free, link-free, stream-free}
 use Rattle.store.proofs.Sequences.Changes.Relations.{link-name-new}
 use Rattle.store.proofs.Sequences.Changes.Links.{LinkSound, links-with}
 use Rattle.store.proofs.Sequences.Changes.Streams.{streams-with, stream-every, stream-kept, stream-there, kept-both}
 use Rattle.store.proofs.Sequences.Changes.NewStream.{StreamMade, named-sound, no-stream, unnamed-sound}
-
--- the link of a new file
-abbrev linkNew : FileNo → List ℕ → FileNo → Link
-linkNew dir name f = record { parent = dir; name = padded fileNameLimit name; file = f }
+use Rattle.paths.specs.Paths.{Leaf}
 
 -- the files with one more
 abbrev grown : Namespace → FileNo → File → List File
 grown ns f file = set (ns .files) (f .0) file
 
-module _ (ns : Namespace) (dir : FileNo) (name stream : List ℕ) (file : File) (h : NamesConsistent ns)
-    (fit : FileFits ns dir name stream file)
+module _ (ns : Namespace) (dir : FileNo) (leaf : Leaf) (file : File) (h : NamespaceConsistent ns)
+    (fit : FileFits ns dir leaf file)
   where
-    link-sound : (f : FileNo) → LinkSound (ns .files) (ns .links) (linkNew dir name f)
-    unfolding linkUsed
+    link-sound : (f : FileNo) → LinkSound (ns .files) (ns .links) (linkNew dir (leaf .file) f)
+    unfolding linkUsed linkNew
     link-sound f =
-        let valid = file-name-units fileNameLimit name (fit .nameValid) in
-        let same = units-padded fileNameLimit name valid in
+        let valid = file-name-units fileNameLimit (leaf .file) (fit .nameValid) in
+        let same = units-padded fileNameLimit (leaf .file) valid in
         record {
-          used = not-is (ne-eqb _ 0 (padded-begins fileNameLimit fileNameLimit name (fit .nameValid)));
-          stored = padded-stored fileNameLimit name valid;
+          used = not-is (ne-eqb _ 0 (padded-begins fileNameLimit fileNameLimit (leaf .file) (fit .nameValid)));
+          stored = padded-stored fileNameLimit (leaf .file) valid;
           valid = ap (validFileName fileNameLimit) same ∙ fit .nameValid;
           parentDirectory = fit .parent;
-          nameNew = λ m u e n. link-name-new (fit .fold) dir name (ns .links) (fit .nameNew) m u e (n ∙ same);
+          nameNew = λ m u e n. link-name-new (fit .fold) dir (leaf .file) (ns .links) (fit .nameNew) m u e (n ∙ same);
         }
 
     -- the free slots that the file, its link and its unnamed stream take
@@ -100,8 +97,8 @@ module _ (ns : Namespace) (dir : FileNo) (name stream : List ℕ) (file : File) 
             StreamsConsistent (grown ns f file) ss → StreamsKept (ns .streams) ss
             → bareUsed (bareAt (ns .streams) opened) ≡ false → bareUsed (bareAt ss opened) ≡ true
             → bareAt ss opened .file ≡ f
-            → PlacedWell ns (placeFile f file l (linkNew dir name f) streams opened)
-        unfolding changed writes placeFile
+            → PlacedWell ns (placeFile (f, file) (l, linkNew dir (leaf .file) f) streams opened)
+        unfolding changed writes placeFile linkNew
         well streams opened consistent kept wasFree used own =
             record {
               after =
@@ -116,7 +113,7 @@ module _ (ns : Namespace) (dir : FileNo) (name stream : List ℕ) (file : File) 
                         })
                         not-root;
                     links =
-                        links-with (ns .files) (grown ns f file) (ns .links) f l (linkNew dir name f) (h .links)
+                        links-with (ns .files) (grown ns f file) (ns .links) f l (linkNew dir (leaf .file) f) (h .links)
                         added
                         linkSlot
                         (link-sound f)
@@ -130,7 +127,7 @@ module _ (ns : Namespace) (dir : FileNo) (name stream : List ℕ) (file : File) 
               streamFile = own;
             }
 
-        well-unnamed : PlacedWell ns (placeFile f file l (linkNew dir name f) ((s, streamNew f (file .«file_type») []) ∷ []) s)
+        well-unnamed : PlacedWell ns (placeFile (f, file) (l, linkNew dir (leaf .file) f) ((s, streamNew f (file .«file_type») []) ∷ []) s)
         unfolding unnamed bareAt bareUsed writes streamNew fileUsed
         well-unnamed =
             let new = stream-there (ns .streams) s unnamed slot in
@@ -140,12 +137,12 @@ module _ (ns : Namespace) (dir : FileNo) (name stream : List ℕ) (file : File) 
 
         -- and the slot that a named stream takes
         module _ (t : StreamNo) (above : suc (s .0) ≤ t .0) (free : FreeSlot bareUsed zeroBare (ns .streams) (t .0))
-            (given : isEmpty stream ≡ false)
+            (given : isEmpty (leaf .stream) ≡ false)
           where
             slot-still : FreeSlot bareUsed zeroBare (set (ns .streams) (s .0) unnamed) (t .0)
             slot-still = free-stays slot unnamed (t .0) (λ e. let z : ⊥ = omega arith in z) free
 
-            made : StreamMade (grown ns f file) (set (ns .streams) (s .0) unnamed) f (file .«file_type») stream
+            made : StreamMade (grown ns f file) (set (ns .streams) (s .0) unnamed) f (file .«file_type») (leaf .stream)
             unfolding unnamed streamNew fileUsed isEmpty all
             made =
                 record {
@@ -154,7 +151,7 @@ module _ (ns : Namespace) (dir : FileNo) (name stream : List ℕ) (file : File) 
                   valid = fit .streamValid;
                   nameNew =
                       stream-every (ns .streams) s unnamed slot
-                      (λ (x : BareStream). bareUsed x ≡ true → x .file ≡ f → units (x .name) ≢ stream)
+                      (λ (x : BareStream). bareUsed x ≡ true → x .file ≡ f → units (x .name) ≢ leaf .stream)
                       (λ u e n. not-both (ap isEmpty (sym n ∙ units-padded streamNameLimit [] refl)) given)
                       (λ m u e.
                       absurd
@@ -170,39 +167,31 @@ module _ (ns : Namespace) (dir : FileNo) (name stream : List ℕ) (file : File) 
             no-directory = refuted _ (λ d. not-both (ap isEmpty (fit .directoryUnnamed d)) given)
 
             well-named : PlacedWell ns
-                (placeFile f file l (linkNew dir name f)
-                ((s, streamNew f (file .«file_type») []) ∷ (t, streamNew f (file .«file_type») stream) ∷ []) t)
+                (placeFile (f, file) (l, linkNew dir (leaf .file) f)
+                ((s, streamNew f (file .«file_type») []) ∷ (t, streamNew f (file .«file_type») (leaf .stream)) ∷ []) t)
             unfolding unnamed bareAt bareUsed writes streamNew fileUsed
             well-named =
                 let before = set (ns .streams) (s .0) unnamed in
-                let named = streamNew f (file .«file_type») stream in
+                let named = streamNew f (file .«file_type») (leaf .stream) in
                 let new = stream-there before t named slot-still in
                 well ((s, unnamed) ∷ (t, named) ∷ []) t
                 (streams-with before t named slot-still (grown ns f file) (grown ns f file) (λ g u. refl) with-unnamed
-                (named-sound (grown ns f file) before f (file .«file_type») stream made with-unnamed given no-directory))
+                (named-sound (grown ns f file) before f (file .«file_type») (leaf .stream) made with-unnamed given no-directory))
                 (kept-both (stream-kept (ns .streams) s unnamed slot) (stream-kept before t named slot-still))
                 (free .free)
                 (ap bareUsed new ∙ fit .used)
                 (ap (λ (x : BareStream). x .file) new)
 
-        streams-placed : (p : Placed) → placeStreams ns f file l (linkNew dir name f) stream s ≡ passed p → PlacedWell ns p
+        streams-placed : Ends Early (PlacedWell ns) (placeStreams ns (f, file) (l, linkNew dir (leaf .file) f) (leaf .stream) s)
         unfolding placeStreams
-        streams-placed p e = go (isEmpty stream) refl
-          where
-            go : (b : Bool) → isEmpty stream ≡ b → PlacedWell ns p
-            go true c = subst (λ (r : Placed). PlacedWell ns r) (passed-same (sym (cond-true _ _ c) ∙ e)) well-unnamed
-            go false c =
-                let q = bind-passed (freeStream ns (suc (s .0))) _ (sym (cond-false _ _ c) ∙ e) in
-                let r = stream-free ns (suc (s .0)) (q .0) (q .1) in
-                subst (λ (r : Placed). PlacedWell ns r) (passed-same (q .2)) (well-named (q .0) (r .0) (r .1) c)
+        streams-placed =
+            ends-cond (isEmpty (leaf .stream)) (λ e. goes well-unnamed)
+            (λ e. ends-bind (stream-free ns (suc (s .0))) (λ t q. goes (well-named t (q .0) (q .1) e)))
 
-    pub file-placed : (p : Placed) → place ns (newFile dir name stream file) ≡ passed p → PlacedWell ns p
+    pub file-placed : Ends Early (PlacedWell ns) (place ns (newFile dir leaf file))
     unfolding place
-    file-placed p e =
-        let q = bind-passed (freeFile ns) _ e in
-        let r = bind-passed (freeLink ns) _ (q .2) in
-        let u = bind-passed (freeStream ns 0) _ (r .2) in
-        streams-placed (q .0) (r .0) (u .0) (file-free ns (q .0) (q .1)) (link-free ns (r .0) (r .1))
-        (stream-free ns 0 (u .0) (u .1) .1)
-        p
-        (u .2)
+    file-placed =
+        ends-bind (file-free ns)
+        (λ f a.
+        ends-bind (link-free ns)
+        (λ l b. ends-bind (stream-free ns 0) (λ s c. streams-placed f l s (a .1) (b .1) (c .1))))

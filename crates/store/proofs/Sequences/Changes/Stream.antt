@@ -12,7 +12,7 @@ use Rattle.records.specs.Slots.{isUsed, isDirectory, fileUsed}
 use Rattle.tables.specs.Tables.{fileAt}
 use Rattle.records.specs.Namespace.{Namespace, BareStream, zeroBare, bareUsed, bareAt}
 use Rattle.records.specs.Checked.{passed}
-use Rattle.records.proofs.Checked.{passed-same, bind-passed}
+use Rattle.records.proofs.Checked.{passed-same, bind-passed, Ends, ends-bind, goes}
 use Rattle.records.specs.declared.FileType.the-variants.{Data}
 use Rattle.records.specs.declared.FileNo.{FileNo}
 use Rattle.records.specs.declared.StreamNo.{StreamNo}
@@ -21,7 +21,7 @@ use Rattle.consistency.specs.Relations.{unnamedOf}
 use Rattle.consistency.proofs.Numbered.{file-in}
 use Rattle.store.specs.Prepare.{newStream}
 use Rattle.store.specs.Complete.{Placed, changed, attributeChange, withAttributes, streamNew, freeStream, place}
-use Rattle.store.proofs.Sequences.Facts.{NamesConsistent, StreamFits, PlacedWell}
+use Rattle.store.proofs.Sequences.Facts.{NamespaceConsistent, StreamFits, PlacedWell, Early}
 use Rattle.store.proofs.Sequences.Changes.Types.{is-data}
 use Rattle.store.proofs.Sequences.Changes.Attributes.{attributes-kept, same-types}
 use Rattle.store.proofs.Sequences.Changes.Free.{stream-free}
@@ -29,7 +29,7 @@ use Rattle.store.proofs.Sequences.Changes.Relations.{stream-name-new, s
 use Rattle.store.proofs.Sequences.Changes.Streams.{streams-with, stream-kept, stream-there}
 use Rattle.store.proofs.Sequences.Changes.NewStream.{StreamMade, made-used, named-sound}
 
-module _ (ns : Namespace) (f : FileNo) (a : ℕ) (name : List ℕ) (h : NamesConsistent ns) (fit : StreamFits ns f a name) where
+module _ (ns : Namespace) (f : FileNo) (a : ℕ) (name : List ℕ) (h : NamespaceConsistent ns) (fit : StreamFits ns f a name) where
   is-used : fileUsed (fileAt (ns .files) f) ≡ true
   unfolding fileUsed isUsed
   is-used = ap isUsed (is-data _ (fit .attributes .dataFile))
@@ -100,8 +100,6 @@ module _ (ns : Namespace) (f : FileNo) (a : ℕ) (name : List ℕ) (h : NamesCon
           streamFile = ap (λ (x : BareStream). x .file) there;
         }
 
-  pub stream-placed : (p : Placed) → place ns (newStream f a name) ≡ passed p → PlacedWell ns p
+  pub stream-placed : Ends Early (PlacedWell ns) (place ns (newStream f a name))
   unfolding place
-  stream-placed p e =
-      let q = bind-passed (freeStream ns 0) _ e in
-      subst (λ (r : Placed). PlacedWell ns r) (passed-same (q .2)) (well (q .0) (stream-free ns 0 (q .0) (q .1) .1))
+  stream-placed = ends-bind (stream-free ns 0) (λ s q. goes (well s (q .1)))

@@ -1,61 +1,87 @@
--- A handle among the opens: a slot that has it, and the opens that are left when the one that has it goes.
-use Prim.Native.Nat.{ℕ, suc, _<_}
-use mathlib.Core.Path.{_≡_, refl, sym, _∙_, ap}
-use mathlib.Core.Bool.{Bool, true, false, not, _&&_}
-use mathlib.Core.List.{List, _∷_}
-use mathlib.Core.Logic.{_≢_}
-use native.Mathlib.Omega.{arith}
-use lib.Dec.{eqb}
-use lib.ListN.{length}
-use borrow.Author.Tests.{eqb-true, ne-eqb}
-use Rattle.lists.specs.Lists.{any, keep, Permutation, both}
-use Rattle.lists.proofs.Tests.{and-right, not-isn't}
-use Rattle.lists.proofs.Keep.{any-keep, any-same, keep-no}
-use Rattle.lists.proofs.Permutations.{perm-eq, perm-sym, perm-keep}
-use Rattle.lists.proofs.PairsPerm.{none-of, keep-others}
-use Rattle.records.specs.Slots.{zeroOpen, openUsed}
+-- A handle among the opens: the one that has it, and the opens that are left when that one goes.
+use Prim.Native.Nat.{_<_, ℕ}
+use Rattle.consistency.proofs.Slots.{same-handle}
+use Rattle.consistency.specs.Consistent.{OpensConsistent, openAt}
+use Rattle.consistency.specs.Relations.{live}
+use Rattle.lists.proofs.All.{all-at}
+use Rattle.lists.proofs.Find.{first-found}
+use Rattle.lists.proofs.FirstElement.{apart, find-found}
+use Rattle.lists.proofs.Keep.{keep-no}
+use Rattle.lists.proofs.Pairs.{pairs-keep-of}
+use Rattle.lists.proofs.PairsPerm.{keep-others, none-of}
+use Rattle.lists.proofs.Permutations.{perm-eq, perm-keep, perm-sym}
+use Rattle.lists.proofs.Slots.{refuted}
+use Rattle.lists.proofs.Tests.{and-fails, and-left, and-right, not-is, not-isn't}
+use Rattle.lists.specs.Lists.{Permutation, all, any, both, find, first, keep, pairs}
 use Rattle.records.specs.Namespace.{BareStream}
+use Rattle.records.specs.Slots.{openUsed, zeroOpen}
 use Rattle.records.specs.declared.Handle.{Handle}
 use Rattle.records.specs.declared.Open.{Open}
-use Rattle.consistency.specs.Relations.{live}
-use Rattle.consistency.specs.Consistent.{openAt, OpensConsistent}
-use Rattle.store.specs.Store.{hasHandle}
-use Rattle.store.proofs.Sequences.Opens.Pairwise.{perm-apart}
+use Rattle.store.specs.Store.{hasHandle, rowsWithoutOpen, stored}
+use borrow.Author.Tests.{eqb-true, not-true}
+use lib.Dec.{eqb}
+use lib.ListN.{length, set}
+use mathlib.Core.Bool.{false, not, true}
+use mathlib.Core.List.{List, _∷_}
+use mathlib.Core.Option.{Option, some}
+use mathlib.Core.Path.{_∙_, _≡_, ap, subst, sym}
 
-pub handle-live : (h : Handle) (os : List Open) → any (hasHandle h) (live os) ≡ any (hasHandle h) os
-unfolding live hasHandle
-handle-live h os = any-keep openUsed (hasHandle h) os ∙ any-same _ _ (λ o. twice (openUsed o) (eqb (o .handle .0) (h .0))) os
-  where
-    twice : (a b : Bool) → (a && (a && b)) ≡ (a && b)
-    twice true b = refl
-    twice false b = refl
-
--- an open has the handle, and no other of the opens has the same: the others are those that don't have it
-pub others-kept : (h : Handle) (o : Open) (rest : List Open) {es : List Open} → Permutation es (o ∷ rest) → hasHandle h o ≡ true
-    → ((i : ℕ) → i < length rest → o .handle ≢ openAt rest i .handle)
-    → Permutation rest (keep (λ q. not (hasHandle h q)) es)
+pub handle-used : (h : Handle) (o : Open) → hasHandle h o ≡ true → openUsed o ≡ true
 unfolding hasHandle
+handle-used h o e = and-left (openUsed o) (eqb (o .handle .0) (h .0)) e
+
+pub handle-is : (h : Handle) (o : Open) → hasHandle h o ≡ true → o .handle ≡ h
+unfolding hasHandle
+handle-is h o e = same-handle (o .handle) h (eqb-true (o .handle .0) (h .0) (and-right (openUsed o) (eqb (o .handle .0) (h .0)) e))
+
+-- no two live opens have it
+pub one-handle : {ss : List BareStream} {next : ℕ} {os : List Open} (h : Handle) → OpensConsistent ss next os
+    → pairs (apart (hasHandle h)) (live os) ≡ true
+unfolding live
+one-handle {ss} {next} {os} h c =
+    pairs-keep-of openUsed (apart (hasHandle h)) zeroOpen os
+    (λ i j b l u w.
+    not-is
+    (refuted _
+    (λ e.
+    let o = openAt os i in
+    let q = openAt os j in
+    c .handlesDiffer i j b u w
+    (handle-is h o (and-left (hasHandle h o) (hasHandle h q) e) ∙ sym (handle-is h q (and-right (hasHandle h o) (hasHandle h q) e))))))
+
+-- an open has the handle, and no other of the opens does: the others are those that don't have it
+pub others-kept : (h : Handle) (o : Open) (rest : List Open) {es : List Open} → Permutation es (o ∷ rest) → hasHandle h o ≡ true
+    → pairs (apart (hasHandle h)) (o ∷ rest) ≡ true → Permutation rest (keep (λ q. not (hasHandle h q)) es)
+unfolding pairs
 others-kept h o rest {es} p e d =
     perm-sym (both (perm-keep (λ q. not (hasHandle h q)) p)
     (perm-eq (keep-no (λ q. not (hasHandle h q)) o rest (not-isn't e) ∙ keep-others (hasHandle h) rest none)))
   where
-    same : o .handle .0 ≡ h .0
-    same = eqb-true (o .handle .0) (h .0) (and-right (openUsed o) (eqb (o .handle .0) (h .0)) e)
-
-    and-none : (a : Bool) {b : Bool} → b ≡ false → (a && b) ≡ false
-    and-none true f = f
-    and-none false f = refl
-
     none : any (hasHandle h) rest ≡ false
     none =
         none-of (hasHandle h) zeroOpen rest
         (λ i b.
-        and-none (openUsed (openAt rest i))
-        (ne-eqb (openAt rest i .handle .0) (h .0) (λ f. d i b (ap {B = Handle} (λ n. record { 0 = n }) (same ∙ sym f)))))
+        and-fails (hasHandle h o) _ e
+        (not-true _ (all-at (apart (hasHandle h) o) zeroOpen rest (and-left (all (apart (hasHandle h) o) rest) (pairs (apart (hasHandle h)) rest) d) i b)))
 
--- live opens in any order
-pub closed-kept : {bs : List BareStream} {next : ℕ} {os rest es : List Open} (h : Handle) (o : Open) → OpensConsistent bs next os
-    → Permutation (live os) (o ∷ rest) → Permutation (live os) es → hasHandle h o ≡ true
-    → Permutation rest (keep (λ q. not (hasHandle h q)) es)
-closed-kept {bs} {next} {os} {rest} {es} h o c p q e =
-    others-kept h o rest (both (perm-sym q) p) e (λ i b. perm-apart c p 0 (suc i) (omega arith) (omega arith) .handlesDiffer)
+-- the slot that a close frees
+pub record Struck (h : Handle) (o : Open) (os : List Open) : Type 0 where
+  pub slot : ℕ
+  pub below : slot < length os
+  pub there : openAt os slot ≡ o
+  pub has : hasHandle h o ≡ true
+  pub rows : rowsWithoutOpen o os ≡ set os slot zeroOpen
+
+pub struck : (h : Handle) (o : Open) (os : List Open) → find (hasHandle h) os ≡ some o → Struck h o os
+unfolding rowsWithoutOpen stored
+struck h o os e =
+    let q = find-found (hasHandle h) zeroOpen os o e in
+    let f = first-found (hasHandle h) zeroOpen os (q .0) (q .1) in
+    let has = subst (λ (x : Open). hasHandle h x ≡ true) (q .2) (f .passes) in
+    record {
+      slot = q .0;
+      below = f .below;
+      there = q .2;
+      has = has;
+      rows = ap (λ (k : Handle). stored zeroOpen (first (hasHandle k) os) os) (handle-is h o has) ∙ ap (λ (i : Option ℕ). stored zeroOpen i os) (q .1);
+    }

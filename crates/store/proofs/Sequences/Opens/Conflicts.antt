@@ -20,6 +20,7 @@ use Rattle.records.specs.declared.Open.{Open}
 use Rattle.sharing.specs.Sharing.{Kind, reading, writing, deleting, shareBit, anyKind, holds, shares, counted, conflict, onStream, anyConflict}
 use Rattle.consistency.specs.Relations.{live}
 use Rattle.consistency.specs.Consistent.{openAt, OpensConsistent}
+use Rattle.records.specs.Terms.{Terms, termsOf}
 
 and-none : (a : Bool) {b c : Bool} → (b ≡ false → c ≡ false) → (a && b) ≡ false → (a && c) ≡ false
 and-none true i h = i h
@@ -45,16 +46,18 @@ module _ (more : ℕ) where
   unfolding shares
   shares-more k share = has-or share more (shareBit k)
 
-  conflict-more : (g s g′ s′ : ℕ) → conflict g s g′ s′ ≡ false → conflict g s g′ (bitOr s′ more) ≡ false
+  conflict-more : (t u : Terms) → conflict t u ≡ false
+      → conflict t (record { granted = u .granted; share = bitOr (u .share) more }) ≡ false
   unfolding conflict
-  conflict-more g s g′ s′ =
-      and-none (counted g && counted g′)
+  conflict-more t u =
+      and-none (counted (t .granted) && counted (u .granted))
       (no-kind _ _
-      (λ k e. rw (shares-more k s′) (over-more (holds k g) (shares k s′) (shares k more) (holds k g′ && not (shares k s)) e)))
+      (λ k e.
+      rw (shares-more k (u .share))
+      (over-more (holds k (t .granted)) (shares k (u .share)) (shares k more) (holds k (u .granted) && not (shares k (t .share))) e)))
 
   -- an open that shares more conflicts with no more
-  pub share-more : (s : StreamNo) (granted share : ℕ) (os : List Open) → anyConflict s granted share os ≡ false
-      → anyConflict s granted (bitOr share more) os ≡ false
+  pub share-more : (s : StreamNo) (t : Terms) (os : List Open) → anyConflict s t os ≡ false
+      → anyConflict s (record { granted = t .granted; share = bitOr (t .share) more }) os ≡ false
   unfolding anyConflict
-  share-more s granted share os =
-      none-too _ _ (λ o. and-none (onStream s o) (conflict-more (o .granted) (o .share) granted share)) os
+  share-more s t os = none-too _ _ (λ o. and-none (onStream s o) (conflict-more (termsOf o) t)) os

@@ -1,14 +1,14 @@
--- The share counts stay true: an open joins or leaves, and a change writes streams that have no opens.
+-- The share counts stay true: an open joins or leaves, and a change leaves them.
 use Prim.Native.Nat.{ℕ, _<_}
-use mathlib.Core.Path.{_≡_, sym, _∙_, ap}
+use mathlib.Core.Path.{_≡_, sym, _∙_, ap, refl}
 use mathlib.Core.Bool.{true, false, not}
 use mathlib.Core.List.{List, [], _∷_, map}
 use mathlib.Core.Logic.{⊎-elim}
 use native.Mathlib.Decide.{ℕ-discrete}
 use native.Mathlib.Omega.{arith}
 use lib.Dec.{eqb}
-use lib.ListN.{length, getD, set, length-set}
-use lib.Seq.{getD-set-same, getD-set-other}
+use lib.ListN.{length-map, length, getD, set, length-set, List·getD-map}
+use lib.Seq.{getD-set-same, getD-set-other, map-set-same}
 use borrow.Author.Tests.{eq-eqb, ne-eqb, not-true}
 use Rattle.lists.specs.Lists.{all, any, count, writes}
 use Rattle.lists.proofs.Tests.{and-left, and-right, not-is, not-both}
@@ -25,7 +25,7 @@ use Rattle.sharing.specs.Sharing.{onStream, countsOfAll, countsOf, withOpen, wi
 use Rattle.sharing.proofs.Counts.{counts-perm, counts-cons, counts-skip, counts-less}
 use Rattle.consistency.specs.Relations.{live}
 use Rattle.consistency.specs.Consistent.{openAt, OpensConsistent, CountsTrue}
-use Rattle.store.specs.Store.{freshStream, recount, rowsWithOpen}
+use Rattle.store.specs.Store.{recount, rowsWithOpen, writeStreams}
 use Rattle.store.proofs.Sequences.Opens.Join.{joined-live}
 use Rattle.store.proofs.Sequences.Opens.Leave.{left-live}
 
@@ -76,41 +76,24 @@ counts-left ss os i l u b =
     (λ s e. ap (withoutOpen o) (counts-perm p s) ∙ counts-less s o rest (on-stream s o e))
     (λ s n. counts-perm p s ∙ counts-skip s o rest (off-stream s o n))
 
--- no open on a stream: its counts are zero
-pub counts-none : (s : StreamNo) (os : List Open) → any (onStream s) os ≡ false → countsOf s os ≡ zeroCounts
-unfolding countsOf countsOfAll count
-counts-none s os h = ap countsOfAll (keep-none (onStream s) os h)
+-- a change leaves the counts of each slot
+counts-stay : (ws : List (StreamNo × BareStream)) (ss : List Stream)
+    → map (λ (s : Stream). s .counts) (writeStreams ws ss) ≡ map (λ (s : Stream). s .counts) ss
+unfolding writeStreams withCounts streamAt
+counts-stay [] ss = refl
+counts-stay (w ∷ ws) ss = counts-stay ws _ ∙ map-set-same (λ (s : Stream). s .counts) ss (w .0 .0) _ zeroStream refl
 
-counts-fresh : (w : StreamNo × BareStream) (ss : List Stream) (os : List Open) → any (onStream (w .0)) (live os) ≡ false
-    → CountsTrue ss os → CountsTrue (set ss (w .0 .0) (freshStream w .1)) os
-unfolding streamAt freshStream withCounts onStream
-counts-fresh w ss os h c s l = go (ℕ-discrete (s .0) (w .0 .0))
-  where
-    b : s .0 < length ss
-    b = omega (arith, length-set ss (w .0 .0) (freshStream w .1))
+pub counts-written : (ws : List (StreamNo × BareStream)) (ss : List Stream) (os : List Open) → CountsTrue ss os
+    → CountsTrue (writeStreams ws ss) os
+unfolding streamAt
+counts-written ws ss os c s l =
+    let same = counts-stay ws ss in
+    let at : (ts : List Stream) → getD (map (λ (t : Stream). t .counts) ts) (s .0) zeroCounts ≡ getD ts (s .0) zeroStream .counts =
+    λ ts. List·getD-map (λ (t : Stream). t .counts) ts (s .0) zeroStream in
+    sym (at (writeStreams ws ss)) ∙ ap (λ (cs : List ShareCounts). getD cs (s .0) zeroCounts) same ∙ at ss
+    ∙ c s (omega (arith, ap length same, length-map (writeStreams ws ss) (λ (t : Stream). t .counts), length-map ss (λ (t : Stream). t .counts)))
 
-    go : Dec (s .0 ≡ w .0 .0) → streamAt (set ss (w .0 .0) (freshStream w .1)) s .counts ≡ countsOf s (live os)
-    go (yes e) =
-        ap (λ (n : ℕ). getD (set ss n (freshStream w .1)) (s .0) zeroStream .counts) (sym e)
-        ∙ ap (λ (x : Stream). x .counts) (getD-set-same ss (s .0) (freshStream w .1) zeroStream b)
-        ∙ sym (counts-none s (live os) (ap (λ (n : ℕ). any (λ o. eqb (o .stream .0) n) (live os)) e ∙ h))
-    go (no n) = ap (λ (x : Stream). x .counts) (getD-set-other ss (w .0 .0) (s .0) (freshStream w .1) zeroStream n) ∙ c s b
-
--- streams written on which no live open stands
-pub counts-changed : (ws : List (StreamNo × BareStream)) (ss : List Stream) (os : List Open)
-    → all (λ w. not (any (onStream (w .0)) (live os))) ws ≡ true
-    → CountsTrue ss os → CountsTrue (writes (λ (n : StreamNo). n .0) (map freshStream ws) ss) os
-unfolding all writes freshStream
-counts-changed [] ss os h c = c
-counts-changed (w ∷ ws) ss os h c =
-    counts-changed ws (set ss (w .0 .0) (freshStream w .1)) os
-    (and-right (not (any (onStream (w .0)) (live os))) (all (λ v. not (any (onStream (v .0)) (live os))) ws) h)
-    (counts-fresh w ss os
-    (not-true (any (onStream (w .0)) (live os))
-    (and-left (not (any (onStream (w .0)) (live os))) (all (λ v. not (any (onStream (v .0)) (live os))) ws) h))
-    c)
-
--- free numbers are such: a live open names a used stream
+-- no live open stands on a free stream
 pub free-unopened : {bs : List BareStream} {next : ℕ} {os : List Open} → OpensConsistent bs next os → (s : StreamNo)
     → bareUsed (bareAt bs s) ≡ false → any (onStream s) (live os) ≡ false
 unfolding live onStream bareAt
@@ -120,11 +103,3 @@ free-unopened {bs} {next} {os} c s f =
     (λ i u.
     ne-eqb (openAt os i .stream .0) (s .0)
     (λ e. not-both (c .namesUsedStream i u) (ap (λ (n : ℕ). bareUsed (getD bs n zeroBare)) e ∙ f))))
-
-pub counts-changed-free : {bs : List BareStream} {next : ℕ} {os : List Open} → OpensConsistent bs next os
-    → (ws : List (StreamNo × BareStream)) → all (λ w. not (bareUsed (bareAt bs (w .0)))) ws ≡ true
-    → (ss : List Stream) → CountsTrue ss os → CountsTrue (writes (λ (n : StreamNo). n .0) (map freshStream ws) ss) os
-counts-changed-free {bs} {next} {os} c ws f ss =
-    counts-changed ws ss os
-    (all-weaker (λ w. not (bareUsed (bareAt bs (w .0)))) (λ w. not (any (onStream (w .0)) (live os)))
-    (λ w u. not-is (free-unopened c (w .0) (not-true (bareUsed (bareAt bs (w .0))) u))) ws f)

@@ -20,9 +20,11 @@ use Rattle.sharing.specs.Sharing.{conflict, conflicting, onStream, anyConflict}
 use Rattle.sharing.proofs.PairRule.{conflicting-sym}
 use Rattle.consistency.specs.Relations.{live}
 use Rattle.consistency.specs.Consistent.{openAt, OpensConsistent}
-use Rattle.store.specs.Store.{rowsWithOpenAt, rowsWithOpen}
+use Rattle.store.specs.Store.{rowsWithOpen, stored}
 use Rattle.store.proofs.Sequences.Facts.{Joins}
 use Rattle.store.proofs.Sequences.Opens.Table.{Stands, Apart, replaced}
+use Rattle.records.specs.Terms.{Terms, termsOf}
+use mathlib.Core.Option.{Option}
 
 -- the slot that an open takes
 pub record Taken (o : Open) (os : List Open) : Type 0 where
@@ -32,7 +34,7 @@ pub record Taken (o : Open) (os : List Open) : Type 0 where
   pub rows : rowsWithOpen o os ≡ set os slot o
 
 pub taken : (o : Open) (os : List Open) → any (λ q. not (openUsed q)) os ≡ true → Taken o os
-unfolding rowsWithOpen rowsWithOpenAt first firstAfter
+unfolding rowsWithOpen stored first firstAfter
 taken o os h =
     let s = first-some (λ q. not (openUsed q)) zeroOpen os h in
     let f = first-found (λ q. not (openUsed q)) zeroOpen os (s .0) (s .1) in
@@ -40,17 +42,16 @@ taken o os h =
       slot = s .0;
       below = f .below;
       free = not-true (openUsed (openAt os (s .0))) (f .passes);
-      rows = ap (rowsWithOpenAt o os) (s .1);
+      rows = ap (λ (i : Option ℕ). stored o i os) (s .1);
     }
 
 -- no live open on the stream conflicts
-pub no-conflict-at : (s : StreamNo) (granted share : ℕ) (os : List Open) → anyConflict s granted share (live os) ≡ false
-    → (i : ℕ) → openUsed (openAt os i) ≡ true → openAt os i .stream ≡ s
-    → conflict (openAt os i .granted) (openAt os i .share) granted share ≡ false
+pub no-conflict-at : (s : StreamNo) (t : Terms) (os : List Open) → anyConflict s t (live os) ≡ false
+    → (i : ℕ) → openUsed (openAt os i) ≡ true → openAt os i .stream ≡ s → conflict (termsOf (openAt os i)) t ≡ false
 unfolding anyConflict live openUsed onStream
-no-conflict-at s granted share os h i u e =
+no-conflict-at s t os h i u e =
     and-fails (onStream s (openAt os i)) _ (eq-eqb (openAt os i .stream .0) (s .0) (ap (λ (n : StreamNo). n .0) e))
-    (none-kept-at openUsed (λ q. onStream s q && conflict (q .granted) (q .share) granted share) zeroOpen refl os h i u)
+    (none-kept-at openUsed (λ q. onStream s q && conflict (termsOf q) t) zeroOpen refl os h i u)
 
 -- it has a handle
 pub joins-used : {ss : List BareStream} {next : ℕ} {o : Open} → Joins ss next o → 1 ≤ next → openUsed o ≡ true
@@ -58,7 +59,7 @@ unfolding openUsed
 joins-used {ss} {next} {o} j l = not-is (ne-eqb (o .handle .0) 0 (λ z. let w : ⊥ = omega (arith, j .handle) in w))
 
 pub joined : {ss : List BareStream} {next : ℕ} {os : List Open} {o : Open} → OpensConsistent ss next os → Joins ss next o
-    → anyConflict (o .stream) (o .granted) (o .share) (live os) ≡ false
+    → anyConflict (o .stream) (termsOf o) (live os) ≡ false
     → any (λ q. not (openUsed q)) os ≡ true
     → OpensConsistent ss (suc next) (rowsWithOpen o os)
 unfolding conflicting
@@ -84,7 +85,7 @@ joined {ss} {next} {os} {o} c j n r =
           handlesDiffer =
               λ e. let z : ⊥ = omega (arith, ap (λ (h : Handle). h .0) e, j .handle, c .handlesBelow i u) in z;
           noConflict =
-              λ e. conflicting-sym o (openAt os i) ∙ no-conflict-at (o .stream) (o .granted) (o .share) os n i u (sym e);
+              λ e. conflicting-sym o (openAt os i) ∙ no-conflict-at (o .stream) (termsOf o) os n i u (sym e);
         }
 
 pub joined-live : (o : Open) (os : List Open) → any (λ q. not (openUsed q)) os ≡ true → openUsed o ≡ true

@@ -1,13 +1,13 @@
 -- Opens come and go and the names stay; a change of the volume is the change of its names.
 use mathlib.Core.Bool.{true}
 use Prim.Native.Nat.{_<_}
-use mathlib.Core.Path.{_≡_, refl, ap}
-use mathlib.Core.List.{List, map}
+use mathlib.Core.Path.{_≡_, refl, ap, _∙_}
+use mathlib.Core.List.{List, [], _∷_, map}
 use native.Mathlib.Omega.{arith}
 use lib.ListN.{length, length-map, List·getD-map}
 use lib.Seq.{map-set-same}
 use Rattle.lists.specs.Lists.{writes}
-use Rattle.lists.proofs.Writes.{map-writes}
+use Rattle.lists.proofs.Writes.{map-writes, map-set}
 use Rattle.records.specs.Slots.{zeroStream}
 use Rattle.tables.specs.Tables.{streamAt}
 use Rattle.records.specs.Namespace.{Namespace, BareStream, bareUsed, bareAt, bare, withCounts, namespace}
@@ -19,7 +19,7 @@ use Rattle.records.specs.declared.Open.{Open}
 use Rattle.records.specs.declared.Volume.{Volume}
 use Rattle.consistency.proofs.Streams.{stream-in}
 use Rattle.store.specs.Complete.{Change, changed}
-use Rattle.store.specs.Store.{freshStream, changedVolume, recount, volumeWithOpen, volumeWithoutOpen}
+use Rattle.store.specs.Store.{changedVolume, recount, volumeWithOpen, volumeWithoutOpen, writeStreams}
 
 -- a stream of the volume, without its counts, is that of its names
 pub bare-at : (ss : List Stream) (s : StreamNo) → bareAt (map bare ss) s ≡ bare (streamAt ss s)
@@ -62,10 +62,12 @@ unfolding volumeWithoutOpen
 without-open-names o v = recounted-names _ _ _ v
 
 -- the streams that a change writes, without their counts
-pub fresh-bare : (ws : List (StreamNo × BareStream)) (ss : List Stream)
-    → map bare (writes (λ (n : StreamNo). n .0) (map freshStream ws) ss) ≡ writes (λ (n : StreamNo). n .0) ws (map bare ss)
-unfolding freshStream bare withCounts
-fresh-bare ws ss = map-writes (λ (n : StreamNo). n .0) bare freshStream (λ w. refl) (λ w. refl) ws ss
+pub written-bare : (ws : List (StreamNo × BareStream)) (ss : List Stream)
+    → map bare (writeStreams ws ss) ≡ writes (λ (n : StreamNo). n .0) ws (map bare ss)
+unfolding writeStreams writes bare withCounts
+written-bare [] ss = refl
+written-bare (w ∷ ws) ss =
+    written-bare ws _ ∙ ap (λ (bs : List BareStream). writes (λ (n : StreamNo). n .0) ws bs) (map-set bare ss (w .0 .0) _)
 
 pub changed-names : (c : Change) (v : Volume) → namespace (changedVolume c v) ≡ changed c (namespace v)
 unfolding namespace changedVolume changed
@@ -78,4 +80,4 @@ changed-names c v =
       links = writes (λ n. n .0) (c .links) (v .links);
       streams = bs;
     })
-    (fresh-bare (c .streams) (v .streams))
+    (written-bare (c .streams) (v .streams))

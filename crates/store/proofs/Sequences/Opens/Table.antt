@@ -15,6 +15,7 @@ use Rattle.sharing.specs.Sharing.{conflicting}
 use Rattle.sharing.proofs.PairRule.{conflicting-sym}
 use Rattle.consistency.specs.Consistent.{openAt, OpensConsistent}
 use Rattle.store.proofs.Sequences.Facts.{Grantable, StreamsKept}
+use Rattle.records.specs.Terms.{termsOf}
 
 -- used streams are as they were: so are the opens on them
 pub opens-kept : {ss ss′ : List BareStream} {next : ℕ} {os : List Open} → OpensConsistent ss next os → StreamsKept ss ss′
@@ -39,7 +40,7 @@ opens-kept {ss} {ss′} {next} {os} c k =
 
 -- what a live open is by itself
 pub record Stands (ss : List BareStream) (next : ℕ) (o : Open) : Type 0 where
-  pub grantable : Grantable (o .granted) (o .share)
+  pub grantable : Grantable (termsOf o)
   pub streamUsed : bareUsed (bareAt ss (o .stream)) ≡ true
   pub streamFile : o .file ≡ bareAt ss (o .stream) .file
   pub handleBelow : o .handle .0 < next

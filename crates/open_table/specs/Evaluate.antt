@@ -1,0 +1,6 @@
+-- What evaluation unfolds: a proof that names `computes` computes with all of these.
+use Rattle.open_table.specs.Rows.{anyOnFile}
+
+unfoldable pub computes : Unit {0}
+unfolding anyOnFile
+computes = tt

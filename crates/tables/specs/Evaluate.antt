@@ -1,0 +1,6 @@
+-- What evaluation unfolds: a proof that names `computes` computes with all of these.
+use Rattle.tables.specs.Tables.{fileAt, linkAt, streamAt}
+
+unfoldable pub computes : Unit {0}
+unfolding fileAt linkAt streamAt
+computes = tt
