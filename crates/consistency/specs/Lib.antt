@@ -1,3 +1,5 @@
 pub mod Relations
-pub mod Test
+pub mod Slots
+pub mod Good
 pub mod Consistent
+pub mod Test

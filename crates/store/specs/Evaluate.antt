@@ -20,17 +20,19 @@ use Rattle.stream_lookup.specs.StreamLookup.{streamMatches, streamNumber, findS
 use Rattle.access.specs.Access.{effective, need, accessFrom, accessRule, checkedAccess}
 use Rattle.sharing.specs.Sharing.{accessBits, shareBit, anyKind, holds, shares, counted, conflict, conflicting, onStream, anyConflict, isHolder, isSharer, countsOfAll, countsOf, holders, sharers, shareCheck, changedBy, withOpen, withoutOpen}
 use Rattle.consistency.specs.Relations.{validMasks, linkTo, streamOf, unnamedOf, live, parentOf, climb, reaches}
-use Rattle.consistency.specs.Test.{freeFile, sameBool, usedFile, filesTest, freeLink, usedLink, linkNamesDiffer, linksOfFile, linksTest, freeStream, usedStream, streamNamesDiffer, streamsOfFile, streamsTest, freeOpen, usedOpen, handlesDiffer, opensAgree, opensTest, sameCounts, countsTest, consistent}
+use Rattle.consistency.specs.Slots.{slotsTest}
+use Rattle.consistency.specs.Good.{goodFile, isZeroFile, goodLink, isZeroLink, goodStream, isZeroStream, goodOpen, isZeroOpen, linkNamesDiffer, streamNamesDiffer, handlesDiffer, opensAgree}
+use Rattle.consistency.specs.Test.{filesTest, linksOfFile, linksTest, streamsOfFile, streamsTest, opensTest, sameCounts, countsTest, conflictsTest, consistent}
 use Rattle.format.specs.Format.{freshOpens, rightLengths, rootFile, freshVolume, checkedMasks, formatAnswer, format}
 use Rattle.store.specs.Request.{wantsDirectory, wantsFile, badParameters, badAccess, wantsBoth, writesVolume}
 use Rattle.store.specs.Prepare.{opening, grant, grantedNew, newType, attributesNew, fileNew, prepareNew, wrongType, readSharingOf, streamOr, prepareDirectory, prepareOpen, hiddenOrSystem, gained, replacing, replacement, prepareReplace, prepareStream, prepareData, prepareFound, streamName, hasColon, prepareAt, prepare}
-use Rattle.store.specs.Complete.{changed, decided, shareOf, slotOr, freeFile as freeFile′, freeLink as freeLink′, freeStream as freeStream′, withAttributes, streamNew, placeFile, placeStreams, place, nextHandle, attributeChange, complete, decide}
+use Rattle.store.specs.Complete.{changed, decided, shareOf, slotOr, freeFile, freeLink, freeStream, withAttributes, streamNew, placeFile, placeStreams, place, nextHandle, attributeChange, complete, decide}
 use Rattle.store.specs.Store.{refusal, whenConsistent, storeView, freshStream, changedVolume, recount, rowsWithOpenAt, rowsWithOpen, volumeWithOpen, openConcluded, openAnswer, hasHandle, volumeWithoutOpen, closeConcluded, closeAnswer, volumeMarked, setReadOnlyAnswer, audit}
 use Rattle.store.specs.Model.{Model, modelRefusal, modelFormatted, modelFormat, modelView, modelOpened, modelOpen, modelClose, modelSetReadOnly}
 use Rattle.store.specs.Calls.{Call, Tables, Run, answered, storeStep, modelStep, run}
 
 unfoldable pub storeRun : List ℕ → Bool → List Call → Run Tables
-unfolding within has without all allFrom any count keep pairs firstFrom first firstAfter writes isEmpty same oneOf padded statusNumber actionNumber outcomeNumbers isUsed isDirectory isData fileUsed linkUsed streamUsed openUsed fileAt linkAt streamAt maskOf bareUsed bareAt bare withCounts namespace _>>=_ _>>_ refuseIf upper folded equalUnits validUnit validFileName validStreamName units wellStored startPart split components endsIn leafOf validLeaf checkedLeaf parseComponents parsePath linkMatches linkNumber findLink streamMatches streamNumber findStream stepInto descend placeOf locateLeaf locate effective need accessFrom accessRule checkedAccess accessBits shareBit anyKind holds shares counted conflict conflicting onStream anyConflict isHolder isSharer countsOfAll countsOf holders sharers shareCheck changedBy withOpen withoutOpen validMasks linkTo streamOf unnamedOf live parentOf climb reaches freeFile sameBool usedFile filesTest freeLink usedLink linkNamesDiffer linksOfFile linksTest freeStream usedStream streamNamesDiffer streamsOfFile streamsTest freeOpen usedOpen handlesDiffer opensAgree opensTest sameCounts countsTest consistent rightLengths rootFile freshVolume checkedMasks formatAnswer format wantsDirectory wantsFile badParameters badAccess wantsBoth writesVolume opening grant grantedNew newType attributesNew fileNew prepareNew wrongType readSharingOf streamOr prepareDirectory prepareOpen hiddenOrSystem gained replacing replacement prepareReplace prepareStream prepareData prepareFound streamName hasColon prepareAt prepare changed decided shareOf slotOr freeFile′ freeLink′ freeStream′ withAttributes streamNew placeFile placeStreams place nextHandle attributeChange complete decide refusal whenConsistent anyOnFile storeView freshStream changedVolume recount rowsWithOpenAt rowsWithOpen volumeWithOpen openConcluded openAnswer hasHandle volumeWithoutOpen closeConcluded closeAnswer volumeMarked setReadOnlyAnswer audit modelRefusal modelFormatted modelFormat modelView modelOpened modelOpen modelClose modelSetReadOnly answered storeStep modelStep run
+unfolding within has without all allFrom any count keep pairs firstFrom first firstAfter writes isEmpty same oneOf padded statusNumber actionNumber outcomeNumbers isUsed isDirectory isData fileUsed linkUsed streamUsed openUsed fileAt linkAt streamAt maskOf bareUsed bareAt bare withCounts namespace _>>=_ _>>_ refuseIf upper folded equalUnits validUnit validFileName validStreamName units wellStored startPart split components endsIn leafOf validLeaf checkedLeaf parseComponents parsePath linkMatches linkNumber findLink streamMatches streamNumber findStream stepInto descend placeOf locateLeaf locate effective need accessFrom accessRule checkedAccess accessBits shareBit anyKind holds shares counted conflict conflicting onStream anyConflict isHolder isSharer countsOfAll countsOf holders sharers shareCheck changedBy withOpen withoutOpen validMasks linkTo streamOf unnamedOf live parentOf climb reaches slotsTest goodFile isZeroFile goodLink isZeroLink goodStream isZeroStream goodOpen isZeroOpen filesTest linkNamesDiffer linksOfFile linksTest streamNamesDiffer streamsOfFile streamsTest handlesDiffer opensTest sameCounts countsTest opensAgree conflictsTest consistent rightLengths rootFile freshVolume checkedMasks formatAnswer format wantsDirectory wantsFile badParameters badAccess wantsBoth writesVolume opening grant grantedNew newType attributesNew fileNew prepareNew wrongType readSharingOf streamOr prepareDirectory prepareOpen hiddenOrSystem gained replacing replacement prepareReplace prepareStream prepareData prepareFound streamName hasColon prepareAt prepare changed decided shareOf slotOr freeFile freeLink freeStream withAttributes streamNew placeFile placeStreams place nextHandle attributeChange complete decide refusal whenConsistent anyOnFile storeView freshStream changedVolume recount rowsWithOpenAt rowsWithOpen volumeWithOpen openConcluded openAnswer hasHandle volumeWithoutOpen closeConcluded closeAnswer volumeMarked setReadOnlyAnswer audit modelRefusal modelFormatted modelFormat modelView modelOpened modelOpen modelClose modelSetReadOnly answered storeStep modelStep run
 storeRun masks readOnly calls =
     run storeStep (record { volume = freshVolume masks readOnly; opens = freshOpens }) calls
 

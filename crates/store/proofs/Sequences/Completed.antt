@@ -27,10 +27,12 @@ use Rattle.records.specs.declared.LinkNo.{LinkNo}
 use Rattle.records.specs.declared.Link.{Link}
 use Rattle.records.specs.declared.Open.{Open}
 use Rattle.records.proofs.Checked.{refused≢passed, passed-same, bind-passed, then-passed, test-passed}
+use Rattle.consistency.specs.Good.{GoodTerms}
 use Rattle.store.specs.Prepare
+use Rattle.consistency.specs.Good.{GoodTerms}
 use Rattle.store.specs.Prepare.{ReadSharing, asOffered, addedIfAlone, deniedIfAlone, Existing, Creation, newStream, newFile, Pending, existing, creating}
 use Rattle.store.specs.Complete.{View, Change, changed, Decision, decided, shareOf, slotOr, freeStream, Placed, placeFile, placeStreams, place, nextHandle, attributeChange, complete}
-use Rattle.store.proofs.Sequences.Facts.{NamesConsistent, AttributesFit, CreationFits, Grantable, ExistingFits, PendingFits, StreamsKept, PlacedWell, Joins}
+use Rattle.store.proofs.Sequences.Facts.{NamesConsistent, AttributesFit, CreationFits, ExistingFits, PendingFits, StreamsKept, PlacedWell, Joins}
 use Rattle.store.proofs.Sequences.Changes.Attributes.{attributes-kept}
 use Rattle.store.proofs.Sequences.Changes.Placed.{placed-well}
 
@@ -147,14 +149,18 @@ accepted ns view e share handle ok fits free s room next =
       writtenFree = q .2;
       joins =
           record {
-            grantable =
+            good =
                 record {
-                  nonzero = fits .grantable .nonzero;
-                  grantedWithin = fits .grantable .grantedWithin;
-                  shareAtMost = share-small (e .share) share (fits .grantable .shareAtMost) s;
+                  namesUsedStream = ap (λ (ss : List BareStream). bareUsed (at ss)) (q .1) ∙ fits .streamUsed;
+                  namesItsFile = sym (ap (λ (ss : List BareStream). at ss .file) (q .1) ∙ fits .streamFile);
+                  terms =
+                      record {
+                        grantedNonzero = fits .grantable .grantedNonzero;
+                        grantedWithin = fits .grantable .grantedWithin;
+                        shareAtMost = share-small (e .share) share (fits .grantable .shareAtMost) s;
+                      };
+                  handleBelow = omega arith;
                 };
-            streamUsed = ap (λ (ss : List BareStream). bareUsed (at ss)) (q .1) ∙ fits .streamUsed;
-            streamFile = sym (ap (λ (ss : List BareStream). at ss .file) (q .1) ∙ fits .streamFile);
             handle = next;
           };
       room = room;
@@ -162,7 +168,7 @@ accepted ns view e share handle ok fits free s room next =
     }
 
 -- an accepted open of what it creates
-created : (ns : Namespace) (view : View) (c : Creation) (granted share handle : ℕ) (p : Placed) → Grantable granted share
+created : (ns : Namespace) (view : View) (c : Creation) (granted share handle : ℕ) (p : Placed) → GoodTerms granted share
     → PlacedWell ns p → WrittenFree ns (p .change) → view .room ≡ true → handle ≡ view .next
     → DecisionFits ns view (decided Created (p .change) (p .file) (p .stream) granted share handle)
 unfolding decided
@@ -171,7 +177,17 @@ created ns view c granted share handle p g well free room next =
       after = well .after;
       kept = well .kept;
       writtenFree = free;
-      joins = record { grantable = g; streamUsed = well .streamUsed; streamFile = sym (well .streamFile); handle = next };
+      joins =
+          record {
+            good =
+                record {
+                  namesUsedStream = well .streamUsed;
+                  namesItsFile = sym (well .streamFile);
+                  terms = g;
+                  handleBelow = omega arith;
+                };
+            handle = next;
+          };
       room = room;
       unopposed = inr (well .wasFree);
     }

@@ -1,16 +1,13 @@
 -- The facts that pass between the parts of the proof: what consistent names are, what a pending open may rely on, and
 -- what its placing leaves.
-use Prim.Native.Nat.{ℕ, suc, _≤_, _<_}
+use Prim.Native.Nat.{ℕ, suc}
 use mathlib.Core.Path.{_≡_}
 use mathlib.Core.Bool.{Bool, true, false}
 use mathlib.Core.List.{List, []}
 use mathlib.Core.Option.{Option, none, some}
-use mathlib.Core.Logic.{_≢_}
 use lib.ListN.{length}
-use Rattle.bits.specs.Bits.{within, has}
 use Rattle.lists.specs.Lists.{any}
 use Rattle.records.specs.Sizes.{fileNameLimit, streamNameLimit, streamSlots}
-use Rattle.records.specs.Constants.{allAccess, directory}
 use Rattle.records.specs.Slots.{isData, isDirectory, fileUsed}
 use Rattle.tables.specs.Tables.{fileAt}
 use Rattle.records.specs.Namespace.{Namespace, BareStream, bareUsed, bareAt}
@@ -21,8 +18,8 @@ use Rattle.records.specs.declared.Open.{Open}
 use Rattle.names.specs.Names.{validFileName, validStreamName}
 use Rattle.lookup.specs.Lookup.{linkMatches}
 use Rattle.stream_lookup.specs.StreamLookup.{streamMatches}
-use Rattle.consistency.specs.Relations.{validMasks}
-use Rattle.consistency.specs.Consistent.{FilesConsistent, LinksConsistent, StreamsConsistent}
+use Rattle.consistency.specs.Good.{GoodAttributes, GoodFile, GoodTerms}
+use Rattle.consistency.specs.Consistent.{FilesConsistent, LinksConsistent, StreamsConsistent, GoodOpenOf}
 use Rattle.store.specs.Prepare.{Existing, Creation, newStream, newFile, Pending, existing, creating}
 use Rattle.store.specs.Complete.{Placed, changed}
 
@@ -35,8 +32,7 @@ pub record NamesConsistent (ns : Namespace) : Type 0 where
 -- attributes that a data file may take
 pub record AttributesFit (ns : Namespace) (f : FileNo) (a : ℕ) : Type 0 where
   pub dataFile : isData (fileAt (ns .files) f .«file_type») ≡ true
-  pub attributesWithin : within a 0x3137 ≡ true
-  pub noDirectoryBit : has a directory ≡ false
+  pub good : GoodAttributes false a
 
 -- a stream that a data file may gain
 pub record StreamFits (ns : Namespace) (f : FileNo) (a : ℕ) (name : List ℕ) : Type 0 where
@@ -53,31 +49,23 @@ pub record FileFits (ns : Namespace) (dir : FileNo) (name stream : List ℕ) (fi
   pub nameNew : any (linkMatches fold dir name) (ns .links) ≡ false
   pub streamValid : validStreamName streamNameLimit stream ≡ true
   pub used : fileUsed file ≡ true
-  pub attributesWithin : within (file .attributes) 0x3137 ≡ true
-  pub directoryBit : has (file .attributes) directory ≡ isDirectory (file .«file_type»)
-  pub masksValid : validMasks (file .masks) ≡ true
+  pub good : GoodFile file
   pub directoryUnnamed : isDirectory (file .«file_type») ≡ true → stream ≡ []
 
 abbrev pub CreationFits : Namespace → Creation → Type 0
 CreationFits ns (newStream f a name) = StreamFits ns f a name
 CreationFits ns (newFile dir name stream file) = FileFits ns dir name stream file
 
--- access and sharing mode that an open may be stored with
-pub record Grantable (granted share : ℕ) : Type 0 where
-  pub nonzero : granted ≢ 0
-  pub grantedWithin : within granted allAccess ≡ true
-  pub shareAtMost : share ≤ 7
-
 -- an open of a stream that is there
 pub record ExistingFits (ns : Namespace) (e : Existing) : Type 0 where
-  pub grantable : Grantable (e .granted) (e .share)
+  pub grantable : GoodTerms (e .granted) (e .share)
   pub streamUsed : bareUsed (bareAt (ns .streams) (e .stream)) ≡ true
   pub streamFile : bareAt (ns .streams) (e .stream) .file ≡ e .file
   pub attributes : (a : ℕ) → e .attributes ≡ some a → AttributesFit ns (e .file) a
 
 abbrev pub PendingFits : Namespace → Pending → Type 0
 PendingFits ns (existing e) = ExistingFits ns e
-PendingFits ns (creating c granted share) = CreationFits ns c × Grantable granted share
+PendingFits ns (creating c granted share) = CreationFits ns c × GoodTerms granted share
 
 -- how the streams of the names before a change stand in those after it
 pub record StreamsKept (before after : List BareStream) : Type 0 where
@@ -92,9 +80,7 @@ pub record PlacedWell (ns : Namespace) (p : Placed) : Type 0 where
   pub streamUsed : bareUsed (bareAt (changed (p .change) ns .streams) (p .stream)) ≡ true
   pub streamFile : bareAt (changed (p .change) ns .streams) (p .stream) .file ≡ p .file
 
--- an open that may join the opens of a table
+-- an open that may join the opens of a table, with the next handle
 pub record Joins (ss : List BareStream) (next : ℕ) (o : Open) : Type 0 where
-  pub grantable : Grantable (o .granted) (o .share)
-  pub streamUsed : bareUsed (bareAt ss (o .stream)) ≡ true
-  pub streamFile : o .file ≡ bareAt ss (o .stream) .file
+  pub good : GoodOpenOf ss (suc next) o
   pub handle : o .handle .0 ≡ next

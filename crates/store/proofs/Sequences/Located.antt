@@ -24,7 +24,7 @@ use Rattle.names.specs.Names.{validFileName}
 use Rattle.stored_names.specs.StoredNames.{units}
 use Rattle.paths.specs.Paths.{Leaf, Path}
 use Rattle.paths.proofs.Parsed.{LeafFits}
-use Rattle.consistency.proofs.Slots.{directory-used}
+use Rattle.consistency.proofs.Numbered.{directory-used}
 use Rattle.lookup.specs.Lookup.{linkMatches, linkNumber, findLink, stepInto, descend, Place, found, missing, placeOf, locateLeaf, locate}
 use Rattle.store.proofs.Sequences.Facts.{NamesConsistent}
 
@@ -77,7 +77,7 @@ valid-nonempty limit (u ∷ us) h = refl
 located-leaf : (ns : Namespace) (fold : Bool) (dir : FileNo) (leaf : Leaf) → NamesConsistent ns
     → isDirectory (fileAt (ns .files) dir .«file_type») ≡ true → validFileName fileNameLimit (leaf .file) ≡ true
     → PlaceFits ns fold (some leaf) (locateLeaf ns fold dir (some leaf))
-unfolding locateLeaf findLink placeOf linkNumber linkMatches linkUsed linkAt
+unfolding locateLeaf findLink placeOf linkNumber linkMatches linkUsed linkAt fileUsed
 located-leaf ns fold dir leaf ok i valid = go (first (linkMatches fold dir (leaf .file)) (ns .links)) refl
   where
     used : (n : ℕ) → Found (linkMatches fold dir (leaf .file)) (ns .links) zeroLink 0 n
@@ -91,8 +91,7 @@ located-leaf ns fold dir leaf ok i valid = go (first (linkMatches fold dir (leaf
         → PlaceFits ns fold (some leaf) (placeOf ns dir leaf (linkNumber o))
     go none e = (i, (leaf, refl, refl, refl), first-none (linkMatches fold dir (leaf .file)) zeroLink (ns .links) e)
     go (some n) e =
-        ok .links .namesUsedFile (record { 0 = n })
-        (used n (first-found (linkMatches fold dir (leaf .file)) zeroLink (ns .links) n e))
+        ok .links .slots .usedGood n (used n (first-found (linkMatches fold dir (leaf .file)) zeroLink (ns .links) n e)) .namesUsedFile
 
 located-at : (ns : Namespace) (fold wantsDirectory : Bool) (dir : FileNo) (leaf : Option Leaf) → NamesConsistent ns
     → isDirectory (fileAt (ns .files) dir .«file_type») ≡ true

@@ -41,11 +41,13 @@ use Rattle.stream_lookup.specs.StreamLookup.{streamMatches, streamNumber, findS
 use Rattle.store.specs.Request.{wantsDirectory, wantsFile, badParameters, badAccess, wantsBoth, writesVolume}
 use Rattle.store.specs.Prepare
 use Rattle.store.specs.Prepare.{Existing, newStream, newFile, Pending, existing, creating, opening, grant, grantedNew, newType, attributesNew, fileNew, prepareNew, wrongType, streamOr, prepareDirectory, prepareOpen, gained, replacement, prepareReplace, prepareStream, prepareData, prepareFound, prepareAt, streamName, hasColon, readSharingOf, prepare}
-use Rattle.store.proofs.Sequences.Facts.{NamesConsistent, AttributesFit, StreamFits, FileFits, Grantable, ExistingFits, PendingFits}
-use Rattle.consistency.proofs.Slots.{directory-used}
+use Rattle.store.proofs.Sequences.Facts.{NamesConsistent, AttributesFit, StreamFits, FileFits, ExistingFits, PendingFits}
+use Rattle.consistency.specs.Good.{GoodAttributes, GoodTerms}
+use Rattle.consistency.proofs.Numbered.{directory-used}
+use Rattle.consistency.proofs.Derived.{file-good}
 use Rattle.store.proofs.Sequences.Located.{PlaceFits, located}
 use Rattle.store.proofs.Sequences.Granted.{granted-fits}
-use Rattle.store.proofs.Sequences.Requested.{RequestFits, requested, granted-new, Attributes, replaced, archived, attributes-new}
+use Rattle.store.proofs.Sequences.Requested.{RequestFits, requested, granted-new, replaced, archived, attributes-new}
 
 -- a passed value that fits, from the value that was passed
 as-passed : (ns : Namespace) {q p : Pending} → passed q ≡ passed p → PendingFits ns q → PendingFits ns p
@@ -59,11 +61,11 @@ used-data Directory u d = absurd (true≢false d)
 
 -- the access rule's answer, with the request's sharing mode
 grantable : (ns : Namespace) (r : Request) (f : FileNo) (access g : ℕ) → NamesConsistent ns → RequestFits r
-    → fileUsed (fileAt (ns .files) f) ≡ true → access ≢ 0 → grant ns r f access ≡ passed g → Grantable g (r .share)
+    → fileUsed (fileAt (ns .files) f) ≡ true → access ≢ 0 → grant ns r f access ≡ passed g → GoodTerms g (r .share)
 unfolding grant
 grantable ns r f access g ok fits used nz h =
-    let q = granted-fits (fileAt (ns .files) f) (r .account) access g (ok .files .masksWithin f used) nz h in
-    record { nonzero = q .0; grantedWithin = q .1; shareAtMost = fits .shareAtMost }
+    let q = granted-fits (fileAt (ns .files) f) (r .account) access g (file-good (ok .files) f used .masksWithin) nz h in
+    record { grantedNonzero = q .0; grantedWithin = q .1; shareAtMost = fits .shareAtMost }
 
 -- access that gains bits stays nonzero
 gains : (a b : ℕ) → a ≢ 0 → bitOr a b ≢ 0
@@ -140,14 +142,10 @@ module _ (ns : Namespace) (r : Request) (f : FileNo) (ok : NamesConsistent ns) (
       opening-fits s _ _ none (r .access) (g .0) q (fits .accessNonzero) (g .1) (λ a e. absurd (none≢some e)) (g .2)
 
   module _ (d : isDirectory (fileAt (ns .files) f .«file_type») ≡ false) where
-    data-attributes : (a : ℕ) → Attributes false a → AttributesFit ns f a
+    data-attributes : (a : ℕ) → GoodAttributes false a → AttributesFit ns f a
     unfolding fileUsed
     data-attributes a h =
-        record {
-          dataFile = used-data (fileAt (ns .files) f .«file_type») used d;
-          attributesWithin = h .inRange;
-          noDirectoryBit = h .directoryBit;
-        }
+        record { dataFile = used-data (fileAt (ns .files) f .«file_type») used d; good = h }
 
     replacement-fits : (unnamed : Bool) (a : ℕ) → replacement r unnamed ≡ some a → AttributesFit ns f a
     unfolding replacement
@@ -172,8 +170,7 @@ module _ (ns : Namespace) (r : Request) (f : FileNo) (ok : NamesConsistent ns) (
         let t = test-passed _ _ _ h in
         let g = bind-passed _ _ (t .1) in
         let w = test-passed _ _ _ (g .2) in
-        let old : Attributes false (fileAt (ns .files) f .attributes) =
-        record { inRange = ok .files .attributesWithin f used; directoryBit = ok .files .directoryBit f used ∙ d } in
+        let old = subst (λ (b : Bool). GoodAttributes b (fileAt (ns .files) f .attributes)) d (file-good (ok .files) f used .attributes) in
         as-passed ns (w .1) (
           record {
             attributes = data-attributes _ (archived _ old);
@@ -221,7 +218,6 @@ new-fits ns r dir l ok fits leaf i m p h =
     let b = test-passed _ _ _ (a .1) in
     let c = test-passed _ _ _ (b .1) in
     let d = test-passed _ _ _ (c .1) in
-    let attributes = attributes-new r parent in
     let g = granted-new r fits in
     as-passed ns (d .1) (
       record {
@@ -231,12 +227,14 @@ new-fits ns r dir l ok fits leaf i m p h =
         nameNew = m;
         streamValid = leaf .streamValid;
         used = type-used (wantsDirectory r);
-        attributesWithin = attributes .inRange;
-        directoryBit = attributes .directoryBit;
-        masksValid = ok .files .masksWithin dir (directory-used (parent .«file_type») i);
+        good =
+            record {
+              attributes = attributes-new r parent;
+              masksWithin = file-good (ok .files) dir (directory-used (parent .«file_type») i) .masksWithin;
+            };
         directoryUnnamed = λ e. leaf .unnamed (no-colon (wantsDirectory r) (leaf .noColon) e);
       },
-      record { nonzero = g .0; grantedWithin = g .1; shareAtMost = fits .shareAtMost },
+      record { grantedNonzero = g .0; grantedWithin = g .1; shareAtMost = fits .shareAtMost },
     )
   where
     type-used : (b : Bool) → isUsed (cond b Directory Data) ≡ true

@@ -12,11 +12,12 @@ use Rattle.bits.specs.Bits.{within, has, without}
 use Rattle.bits.proofs.Sets.{within-iff, within-trans, within-mono, within-less, within-or, within-and-l, within-and-r, within-split, within-self, has-or, has-subset, has-iff-false, has-meets, without-clears}
 use Rattle.lists.specs.Lists.{oneOf}
 use Rattle.lists.proofs.Tests.{or-neither}
-use Rattle.records.specs.Constants.{supersede, overwrite, overwriteIf, appendData, directory, archive, notContentIndexed, allAccess, maximumAllowed}
+use Rattle.records.specs.Constants.{supersede, overwrite, overwriteIf, appendData, directory, archive, notContentIndexed, fileAttributes, allAccess, maximumAllowed}
 use Rattle.records.specs.Slots.{isDirectory}
 use Rattle.records.specs.declared.FileType.the-variants.{Data, Directory}
 use Rattle.records.specs.declared.File.{File}
 use Rattle.records.specs.declared.Request.{Request}
+use Rattle.consistency.specs.Good.{GoodAttributes}
 use Rattle.store.specs.Request.{wantsDirectory, badParameters, badAccess}
 use Rattle.store.specs.Prepare.{grantedNew, newType, attributesNew}
 
@@ -67,13 +68,8 @@ granted-new r fits = go (has (r .access) maximumAllowed) refl
     go true e = (λ z. omega arith, within-self allAccess)
     go false e = (fits .accessNonzero, within-split (r .access) allAccess maximumAllowed (fits .accessWithin) e)
 
--- the attributes of steps 9 and 11: within 0x3137, and with 0x10 exactly for a directory
-pub record Attributes (isDir : Bool) (a : ℕ) : Type 0 where
-  pub inRange : within a 0x3137 ≡ true
-  pub directoryBit : has a directory ≡ isDir
-
 -- step 11: asked plus 0x20 minus 0x2080
-pub replaced : (r : Request) → RequestFits r → Attributes false (without (bitOr (r .attributes) archive) 0x2080)
+pub replaced : (r : Request) → RequestFits r → GoodAttributes false (without (bitOr (r .attributes) archive) 0x2080)
 replaced r fits =
     let a = bitOr (r .attributes) archive in
     let w : within a 0x31A7 ≡ true =
@@ -81,40 +77,40 @@ replaced r fits =
     let n : within (without a 0x2080) 0x1127 ≡ true =
     within-split (without a 0x2080) 0x1127 0x2080 (within-less a 0x31A7 0x2080 w) (without-clears a 0x2080) in
     record {
-      inRange = within-mono (without a 0x2080) 0x1127 0x3137 n refl;
+      attributesWithin = within-mono (without a 0x2080) 0x1127 fileAttributes n refl;
       directoryBit = has-subset (without a 0x2080) 0x1127 directory n (has-iff-false 0x1127 directory .1 refl);
     }
 
 -- a union of attributes
-joined : (x y : ℕ) (c d : Bool) → Attributes c x → Attributes d y → Attributes (c || d) (bitOr x y)
+joined : (x y : ℕ) (c d : Bool) → GoodAttributes c x → GoodAttributes d y → GoodAttributes (c || d) (bitOr x y)
 joined x y c d h k =
     record {
-      inRange = within-or x y 0x3137 (h .inRange) (k .inRange);
+      attributesWithin = within-or x y fileAttributes (h .attributesWithin) (k .attributesWithin);
       directoryBit = has-or x y directory ∙ ap₂ (λ (p q : Bool). p || q) (h .directoryBit) (k .directoryBit);
     }
 
 -- a part of a mask without 0x10
-part-of : (x m : ℕ) → within x m ≡ true → bitAnd m 0x3137 ≡ m → bitAnd m directory ≡ 0 → Attributes false x
+part-of : (x m : ℕ) → within x m ≡ true → bitAnd m fileAttributes ≡ m → bitAnd m directory ≡ 0 → GoodAttributes false x
 part-of x m w i z =
     record {
-      inRange = within-mono x m 0x3137 w i;
+      attributesWithin = within-mono x m fileAttributes w i;
       directoryBit = has-subset x m directory w (has-iff-false m directory .1 z);
     }
 
 -- step 11: a file gains 0x20
-pub archived : (a : ℕ) → Attributes false a → Attributes false (bitOr a archive)
+pub archived : (a : ℕ) → GoodAttributes false a → GoodAttributes false (bitOr a archive)
 archived a h = joined a archive false false h (part-of archive archive (within-self archive) refl refl)
 
 -- step 9: the bit of the new file's type
-directory-kind : Attributes (isDirectory Directory) directory
+directory-kind : GoodAttributes (isDirectory Directory) directory
 unfolding isDirectory
-directory-kind = record { inRange = within-iff directory 0x3137 .1 refl; directoryBit = has-meets directory directory (λ e. omega arith) }
+directory-kind = record { attributesWithin = within-iff directory fileAttributes .1 refl; directoryBit = has-meets directory directory (λ e. omega arith) }
 
-file-kind : Attributes (isDirectory Data) archive
+file-kind : GoodAttributes (isDirectory Data) archive
 unfolding isDirectory
 file-kind = part-of archive archive (within-self archive) refl refl
 
-pub attributes-new : (r : Request) (parent : File) → Attributes (isDirectory (newType r)) (attributesNew r parent)
+pub attributes-new : (r : Request) (parent : File) → GoodAttributes (isDirectory (newType r)) (attributesNew r parent)
 unfolding attributesNew newType
 attributes-new r parent =
     let asked = bitAnd (r .attributes) 0x3127 in
@@ -127,6 +123,6 @@ attributes-new r parent =
     joined (bitOr (without asked notContentIndexed) inherited) (cond (wantsDirectory r) directory archive) false
     (isDirectory (cond (wantsDirectory r) Directory Data)) front (kind (wantsDirectory r))
   where
-    kind : (b : Bool) → Attributes (isDirectory (cond b Directory Data)) (cond b directory archive)
+    kind : (b : Bool) → GoodAttributes (isDirectory (cond b Directory Data)) (cond b directory archive)
     kind true = directory-kind
     kind false = file-kind

@@ -30,9 +30,10 @@ use Rattle.records.specs.declared.OpenTable.{OpenTable}
 use Rattle.sharing.specs.Sharing.{onStream, conflict, anyConflict}
 use Rattle.sharing.proofs.Check.{any-conflict-perm}
 use Rattle.consistency.specs.Relations.{live}
-use Rattle.consistency.specs.Consistent.{Consistent, FilesConsistent, LinksConsistent, StreamsConsistent, OpensConsistent, CountsTrue, openAt}
+use Rattle.consistency.specs.Consistent.{Consistent, FilesConsistent, LinksConsistent, StreamsConsistent, OpensConsistent, CountsTrue, NoConflicts, openAt}
 use Rattle.consistency.specs.Test.{consistent}
-use Rattle.consistency.proofs.Equivalence.{consistent-complete}
+use Rattle.consistency.proofs.Equivalence.{consistent-iff}
+use Rattle.consistency.proofs.Derived.{free-unopened}
 use Rattle.store.specs.Prepare.{Pending, prepare}
 use Rattle.store.specs.Complete.{View, changed, Decision, complete, decide}
 use Rattle.store.specs.Store.{refusal, whenConsistent, storeView, changedVolume, volumeWithOpen, openConcluded, openAnswer, hasHandle, volumeWithoutOpen, closeConcluded, closeAnswer, volumeMarked, setReadOnlyAnswer}
@@ -43,9 +44,9 @@ use Rattle.store.proofs.Sequences.Facts.{NamesConsistent, PendingFits, 
 use Rattle.store.proofs.Sequences.Prepared.{prepared}
 use Rattle.store.proofs.Sequences.Opens.Names.{used-below, with-open-names, without-open-names, changed-names}
 use Rattle.store.proofs.Sequences.Opens.Table.{opens-kept}
-use Rattle.store.proofs.Sequences.Opens.Join.{joins-used, joined, joined-live}
-use Rattle.store.proofs.Sequences.Opens.Leave.{left, left-live}
-use Rattle.store.proofs.Sequences.Opens.Counts.{counts-joined, counts-changed-free, counts-left, free-unopened}
+use Rattle.store.proofs.Sequences.Opens.Join.{conflicts-joined, joins-used, joined, joined-live}
+use Rattle.store.proofs.Sequences.Opens.Leave.{conflicts-left, left, left-live}
+use Rattle.store.proofs.Sequences.Opens.Counts.{counts-joined, counts-changed-free, counts-left}
 use Rattle.store.proofs.Sequences.Opens.Conflicts.{share-more}
 use Rattle.store.proofs.Sequences.Opens.Close.{handle-live, closed-kept}
 use Rattle.store.proofs.Sequences.Views.{Related, completed-alike, views-alike}
@@ -72,15 +73,16 @@ names-of c = record { files = c .files; links = c .links; streams = c .streams }
 
 -- tables whose names are these
 consistent-with : (v : Volume) (t : OpenTable) (ns : Namespace) → namespace v ≡ ns → NamesConsistent ns
-    → OpensConsistent (ns .streams) (v .«next_handle» .0) (t .rows) → CountsTrue (v .streams) (t .rows) → Consistent v t
+    → OpensConsistent (ns .streams) (v .«next_handle» .0) (t .rows) → CountsTrue (v .streams) (t .rows) → NoConflicts (t .rows) → Consistent v t
 unfolding namespace
-consistent-with v t ns e n o c =
+consistent-with v t ns e n o c a =
     record {
       files = subst (λ (x : Namespace). FilesConsistent (x .files)) (sym e) (n .files);
       links = subst (λ (x : Namespace). LinksConsistent (x .files) (x .links)) (sym e) (n .links);
       streams = subst (λ (x : Namespace). StreamsConsistent (x .files) (x .streams)) (sym e) (n .streams);
       opens = subst (λ (x : Namespace). OpensConsistent (x .streams) (v .«next_handle» .0) (t .rows)) (sym e) o;
       counts = c;
+      conflicts = a;
     }
 
 -- no open on a stream, none that conflicts there
@@ -92,7 +94,7 @@ none-on-stream s granted share os h =
 -- consistent tables answer as if there were no test
 pub when-consistent : (v : Volume) (t : OpenTable) → Consistent v t → (a : Answer) → whenConsistent v t a ≡ a
 unfolding whenConsistent
-when-consistent v t ok a = rw (consistent-complete v t ok, whenConsistent)
+when-consistent v t ok a = rw (consistent-iff v t .1 ok, whenConsistent)
 
 -- an accepted open, decided by the model's view
 module _ {t : Tables} {m : Model} (related : Related t m) (d : Decision) (fits : DecisionFits (namespace (t .volume)) (modelView m) d)
@@ -140,16 +142,17 @@ module _ {t : Tables} {m : Model} (related : Related t m) (d : Decision) (fits :
       below =
           used-below (changedVolume (d .change) (t .volume) .streams) (o .stream)
           (ap (λ (ns : Namespace). bareUsed (bareAt (ns .streams) (o .stream))) (changed-names (d .change) (t .volume))
-          ∙ fits .joins .streamUsed)
+          ∙ fits .joins .good .namesUsedStream)
 
   pub open-related : Related (answered opened .state) (modelOpened m (passed d) .state)
   unfolding openConcluded answered modelOpened
   open-related =
-      let opens = joined (opens-kept was (fits .kept)) joins-next (unopposed-now (fits .unopposed)) roomy in
+      let opens = joined (opens-kept was (fits .kept)) joins-next roomy in
+      let conflicts = conflicts-joined o (t .opens .rows) (related .consistentTables .conflicts) (unopposed-now (fits .unopposed)) roomy in
       record {
         consistentTables =
             consistent-with (opened .volume) (opened .opens) (changed (d .change) (namespace (t .volume))) names-after (fits .after)
-            (rw next-after opens) counts-after;
+            (rw next-after opens) counts-after conflicts;
         opensAreEntries =
             both (joined-live o (t .opens .rows) roomy (joins-used joins-next (was .nextAtLeast))) (skip o (related .opensAreEntries));
         sameNames = names-after ∙ ap (changed (d .change)) (related .sameNames);
@@ -225,7 +228,7 @@ module _ {t : Tables} {m : Model} (related : Related t m) where
     unfolding closeConcluded volumeWithoutOpen namespace
     closed-counts =
         counts-left (t .volume .streams) (t .opens .rows) i (f .below) used
-        (used-below (t .volume .streams) (openAt (t .opens .rows) i .stream) (related .consistentTables .opens .namesUsedStream i used))
+        (used-below (t .volume .streams) (openAt (t .opens .rows) i .stream) (related .consistentTables .opens .slots .usedGood i used .namesUsedStream))
         (related .consistentTables .counts)
 
     closed-related : Related (answered closed .state)
@@ -235,7 +238,8 @@ module _ {t : Tables} {m : Model} (related : Related t m) where
         record {
           consistentTables =
               consistent-with (closed .volume) (closed .opens) (namespace (t .volume)) closed-names
-              (names-of (related .consistentTables)) (left (related .consistentTables .opens) i) closed-counts;
+              (names-of (related .consistentTables)) (left (related .consistentTables .opens) i) closed-counts
+              (conflicts-left (t .opens .rows) (related .consistentTables .conflicts) i);
           opensAreEntries =
               closed-kept h (openAt (t .opens .rows) i) (related .consistentTables .opens) (left-live (t .opens .rows) i (f .below) used)
               (related .opensAreEntries) (f .passes);
@@ -270,7 +274,14 @@ module _ {t : Tables} {m : Model} (related : Related t m) where
         relatedAfter =
             record {
               consistentTables =
-                  record { files = was .files; links = was .links; streams = was .streams; opens = was .opens; counts = was .counts };
+                  record {
+                    files = was .files;
+                    links = was .links;
+                    streams = was .streams;
+                    opens = was .opens;
+                    counts = was .counts;
+                    conflicts = was .conflicts;
+                  };
               opensAreEntries = related .opensAreEntries;
               sameNames =
                   ap

@@ -31,7 +31,7 @@ use Rattle.format.proofs.Fresh.{fresh-consistent}
 use Rattle.store.specs.Model.{Model, Reply, Step, modelFormatted, modelFormat}
 use Rattle.store.specs.Calls.{Call, Tables, answered, Run, run, storeStep, modelStep}
 use Rattle.store.specs.Sequences.{isCorrupt, handleOf, issued, numbersFrom, Agree, EverySequence}
-use Rattle.store.proofs.Sequences.Opens.Pairwise.{perm-apart}
+use Rattle.store.proofs.Sequences.Opens.Pairwise.{perm-agree}
 use Rattle.store.proofs.Sequences.Views.{Related}
 use Rattle.store.proofs.Sequences.Violation.{share-right, violation}
 use Rattle.store.proofs.Sequences.Steps.{Issues, Together, together}
@@ -119,7 +119,8 @@ agree m unissued s r q =
       countsAreTheirs = counts-theirs related;
       sameNames = related .sameNames;
       nextHandle = related .nextHandle;
-      noConflict = λ i j l b e. perm-apart (related .consistentTables .opens) (related .opensAreEntries) i j l b .noConflict e;
+      noConflict =
+          perm-agree (s .state .opens .rows) (r .state .entries) (related .consistentTables .conflicts) (related .opensAreEntries);
       shareCheckRight = share-right related;
       violationExactly = violation related;
       handlesInOrder =

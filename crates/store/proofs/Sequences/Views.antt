@@ -65,7 +65,7 @@ module _ {t : Tables} {m : Model} (related : Related t m) where
   room-agrees =
       any-fails openUsed (t .opens .rows)
       ∙ ap₂ ltb (sym (length-keep openUsed (t .opens .rows)) ∙ perm-length (related .opensAreEntries))
-      (related .consistentTables .opens .size)
+      (related .consistentTables .opens .slots .size)
 
 -- what completing a pending open asks
 pub record Alike (view view′ : View) (p : Pending) : Type 0 where
@@ -114,5 +114,5 @@ module _ {t : Tables} {m : Model} (related : Related t m) where
       below : (e : Existing) → ExistingFits (namespace (t .volume)) e → e .stream .0 < length (t .volume .streams)
       below e f =
           subst (λ (n : ℕ). e .stream .0 < n)
-          (sym (related .consistentTables .streams .size) ∙ length-map (t .volume .streams) bare)
+          (sym (related .consistentTables .streams .slots .size) ∙ length-map (t .volume .streams) bare)
           (stream-below (related .consistentTables .streams) (e .stream) (f .streamUsed))

@@ -9,6 +9,7 @@ use lib.ListN.{set}
 use borrow.Author.Tests.{ne-eqb}
 use Rattle.lists.specs.Lists.{all, isEmpty, padded, writes}
 use Rattle.lists.proofs.Tests.{not-both, not-is, cond-true, cond-false}
+use Rattle.lists.proofs.PairsPerm.{set-each}
 use Rattle.lists.proofs.Slots.{FreeSlot, refuted, free-stays}
 use Rattle.records.specs.Sizes.{fileNameLimit, streamNameLimit}
 use Rattle.records.specs.Slots.{root, zeroFile, zeroLink, isDirectory, fileUsed, linkUsed}
@@ -24,6 +25,7 @@ use Rattle.records.specs.declared.Link.{Link}
 use Rattle.names.specs.Names.{validFileName}
 use Rattle.stored_names.specs.StoredNames.{units}
 use Rattle.stored_names.proofs.Padded.{file-name-units, units-padded, padded-stored, padded-begins}
+use Rattle.consistency.specs.Relations.{typeAt}
 use Rattle.consistency.specs.Consistent.{StreamsConsistent}
 use Rattle.consistency.proofs.Numbered.{directory-file}
 use Rattle.store.specs.Prepare.{newFile}
@@ -33,7 +35,7 @@ use Rattle.store.proofs.Sequences.Changes.Files.{FileAdded, file-at-new
 use Rattle.store.proofs.Sequences.Changes.Free.{file-free, link-free, stream-free}
 use Rattle.store.proofs.Sequences.Changes.Relations.{link-name-new}
 use Rattle.store.proofs.Sequences.Changes.Links.{LinkSound, links-with}
-use Rattle.store.proofs.Sequences.Changes.Streams.{streams-with, stream-every, stream-kept, stream-there, kept-both}
+use Rattle.store.proofs.Sequences.Changes.Streams.{streams-with, stream-kept, stream-there, kept-both}
 use Rattle.store.proofs.Sequences.Changes.NewStream.{StreamMade, named-sound, no-stream, unnamed-sound}
 
 -- the link of a new file
@@ -47,16 +49,20 @@ grown ns f file = set (ns .files) (f .0) file
 module _ (ns : Namespace) (dir : FileNo) (name stream : List ℕ) (file : File) (h : NamesConsistent ns)
     (fit : FileFits ns dir name stream file)
   where
-    link-sound : (f : FileNo) → LinkSound (ns .files) (ns .links) (linkNew dir name f)
-    unfolding linkUsed
-    link-sound f =
+    link-sound : (gs : List File) (f : FileNo) → fileUsed (fileAt gs f) ≡ true → LinkSound (ns .files) gs (ns .links) (linkNew dir name f)
+    unfolding linkUsed fileUsed
+    link-sound gs f u =
         let valid = file-name-units fileNameLimit name (fit .nameValid) in
         let same = units-padded fileNameLimit name valid in
         record {
           used = not-is (ne-eqb _ 0 (padded-begins fileNameLimit fileNameLimit name (fit .nameValid)));
-          stored = padded-stored fileNameLimit name valid;
-          valid = ap (validFileName fileNameLimit) same ∙ fit .nameValid;
-          parentDirectory = fit .parent;
+          good =
+              record {
+                nameStored = padded-stored fileNameLimit name valid;
+                nameValid = ap (validFileName fileNameLimit) same ∙ fit .nameValid;
+                namesUsedFile = u;
+                parentDirectory = fit .parent;
+              };
           nameNew = λ m u e n. link-name-new (fit .fold) dir name (ns .links) (fit .nameNew) m u e (n ∙ same);
         }
 
@@ -80,7 +86,7 @@ module _ (ns : Namespace) (dir : FileNo) (name stream : List ℕ) (file : File) 
         not-root : f .0 ≢ 0
         not-root e = not-added added root (directory-file (ns .files) root (h .files .rootDirectory)) (sym e)
 
-        agrees : file .«file_type» ≡ fileAt (grown ns f file) f .«file_type»
+        agrees : file .«file_type» ≡ typeAt (grown ns f file) f
         agrees = ap (λ (x : File). x .«file_type») (sym there)
 
         unnamed : BareStream
@@ -107,19 +113,12 @@ module _ (ns : Namespace) (dir : FileNo) (name stream : List ℕ) (file : File) 
               after =
                   record {
                     files =
-                        files-with (ns .files) f file (fileSlot .below) (h .files)
-                        (record {
-                          used = fit .used;
-                          attributesWithin = fit .attributesWithin;
-                          directoryBit = fit .directoryBit;
-                          masksValid = fit .masksValid;
-                        })
-                        not-root;
+                        files-with (ns .files) f file (fileSlot .below) (h .files) (fit .used) (fit .good) not-root;
                     links =
                         links-with (ns .files) (grown ns f file) (ns .links) f l (linkNew dir name f) (h .links)
                         added
                         linkSlot
-                        (link-sound f)
+                        (link-sound (grown ns f file) f (added .there))
                         refl
                         not-root;
                     streams = consistent;
@@ -146,23 +145,27 @@ module _ (ns : Namespace) (dir : FileNo) (name stream : List ℕ) (file : File) 
             slot-still = free-stays slot unnamed (t .0) (λ e. let z : ⊥ = omega arith in z) free
 
             made : StreamMade (grown ns f file) (set (ns .streams) (s .0) unnamed) f (file .«file_type») stream
-            unfolding unnamed streamNew fileUsed isEmpty all
+            unfolding unnamed streamNew fileUsed isEmpty all bareAt
             made =
                 record {
                   used = fit .used;
                   agrees = agrees;
                   valid = fit .streamValid;
                   nameNew =
-                      stream-every (ns .streams) s unnamed slot
-                      (λ (x : BareStream). bareUsed x ≡ true → x .file ≡ f → units (x .name) ≢ stream)
+                      λ t.
+                      set-each zeroBare (λ (x : BareStream). bareUsed x ≡ true → x .file ≡ f → units (x .name) ≢ stream)
+                      (ns .streams)
+                      (s .0)
+                      unnamed
                       (λ u e n. not-both (ap isEmpty (sym n ∙ units-padded streamNameLimit [] refl)) given)
-                      (λ m u e.
+                      (λ j u e.
                       absurd
                       (no-stream (ns .files) (grown ns f file) (ns .streams) f (file .«file_type») (h .streams) added
                       agrees
-                      m
+                      (record { 0 = j })
                       u
-                      e));
+                      e))
+                      (t .0);
                 }
 
             no-directory : isDirectory (file .«file_type») ≡ false

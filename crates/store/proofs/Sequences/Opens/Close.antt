@@ -20,7 +20,7 @@ use Rattle.records.specs.declared.Open.{Open}
 use Rattle.consistency.specs.Relations.{live}
 use Rattle.consistency.specs.Consistent.{openAt, OpensConsistent}
 use Rattle.store.specs.Store.{hasHandle}
-use Rattle.store.proofs.Sequences.Opens.Pairwise.{perm-apart}
+use Rattle.store.proofs.Sequences.Opens.Pairwise.{perm-handles}
 
 pub handle-live : (h : Handle) (os : List Open) → any (hasHandle h) (live os) ≡ any (hasHandle h) os
 unfolding live hasHandle
@@ -58,4 +58,4 @@ pub closed-kept : {bs : List BareStream} {next : ℕ} {os rest es : List Open} (
     → Permutation (live os) (o ∷ rest) → Permutation (live os) es → hasHandle h o ≡ true
     → Permutation rest (keep (λ q. not (hasHandle h q)) es)
 closed-kept {bs} {next} {os} {rest} {es} h o c p q e =
-    others-kept h o rest (both (perm-sym q) p) e (λ i b. perm-apart c p 0 (suc i) (omega arith) (omega arith) .handlesDiffer)
+    others-kept h o rest (both (perm-sym q) p) e (λ i b. perm-handles c p 0 (suc i) (omega arith) (omega arith))

@@ -10,21 +10,22 @@ use lib.Dec.{eqb}
 use lib.ListN.{length, getD, set, length-set}
 use lib.Seq.{getD-set-same, getD-set-other}
 use borrow.Author.Tests.{eq-eqb, ne-eqb, not-true}
-use Rattle.lists.specs.Lists.{all, any, count, writes}
-use Rattle.lists.proofs.Tests.{and-left, and-right, not-is, not-both}
+use Rattle.lists.specs.Lists.{all, any, writes}
+use Rattle.lists.proofs.Tests.{and-left, and-right, not-is}
 use Rattle.lists.proofs.Set.{set-cases}
-use Rattle.lists.proofs.PairsPerm.{none-of, kept-each, all-weaker, keep-none}
-use Rattle.records.specs.Slots.{zeroCounts, zeroOpen, zeroStream, openUsed}
+use Rattle.lists.proofs.PairsPerm.{all-weaker}
+use Rattle.records.specs.Slots.{zeroOpen, zeroStream, openUsed}
 use Rattle.tables.specs.Tables.{streamAt}
-use Rattle.records.specs.Namespace.{BareStream, zeroBare, bareUsed, bareAt, bare, withCounts}
+use Rattle.records.specs.Namespace.{BareStream, bareUsed, bareAt, bare, withCounts}
 use Rattle.records.specs.declared.StreamNo.{StreamNo}
 use Rattle.records.specs.declared.ShareCounts.{ShareCounts}
 use Rattle.records.specs.declared.Stream.{Stream}
 use Rattle.records.specs.declared.Open.{Open}
-use Rattle.sharing.specs.Sharing.{onStream, countsOfAll, countsOf, withOpen, withoutOpen}
+use Rattle.sharing.specs.Sharing.{onStream, countsOf, withOpen, withoutOpen}
 use Rattle.sharing.proofs.Counts.{counts-perm, counts-cons, counts-skip, counts-less}
 use Rattle.consistency.specs.Relations.{live}
 use Rattle.consistency.specs.Consistent.{openAt, OpensConsistent, CountsTrue}
+use Rattle.consistency.proofs.Derived.{free-unopened, counts-none}
 use Rattle.store.specs.Store.{freshStream, recount, rowsWithOpen}
 use Rattle.store.proofs.Sequences.Opens.Join.{joined-live}
 use Rattle.store.proofs.Sequences.Opens.Leave.{left-live}
@@ -76,11 +77,6 @@ counts-left ss os i l u b =
     (λ s e. ap (withoutOpen o) (counts-perm p s) ∙ counts-less s o rest (on-stream s o e))
     (λ s n. counts-perm p s ∙ counts-skip s o rest (off-stream s o n))
 
--- no open on a stream: its counts are zero
-pub counts-none : (s : StreamNo) (os : List Open) → any (onStream s) os ≡ false → countsOf s os ≡ zeroCounts
-unfolding countsOf countsOfAll count
-counts-none s os h = ap countsOfAll (keep-none (onStream s) os h)
-
 counts-fresh : (w : StreamNo × BareStream) (ss : List Stream) (os : List Open) → any (onStream (w .0)) (live os) ≡ false
     → CountsTrue ss os → CountsTrue (set ss (w .0 .0) (freshStream w .1)) os
 unfolding streamAt freshStream withCounts onStream
@@ -110,17 +106,7 @@ counts-changed (w ∷ ws) ss os h c =
     (and-left (not (any (onStream (w .0)) (live os))) (all (λ v. not (any (onStream (v .0)) (live os))) ws) h))
     c)
 
--- free numbers are such: a live open names a used stream
-pub free-unopened : {bs : List BareStream} {next : ℕ} {os : List Open} → OpensConsistent bs next os → (s : StreamNo)
-    → bareUsed (bareAt bs s) ≡ false → any (onStream s) (live os) ≡ false
-unfolding live onStream bareAt
-free-unopened {bs} {next} {os} c s f =
-    none-of (onStream s) zeroOpen (live os)
-    (kept-each openUsed zeroOpen (λ o. onStream s o ≡ false) os
-    (λ i u.
-    ne-eqb (openAt os i .stream .0) (s .0)
-    (λ e. not-both (c .namesUsedStream i u) (ap (λ (n : ℕ). bareUsed (getD bs n zeroBare)) e ∙ f))))
-
+-- free numbers are such
 pub counts-changed-free : {bs : List BareStream} {next : ℕ} {os : List Open} → OpensConsistent bs next os
     → (ws : List (StreamNo × BareStream)) → all (λ w. not (bareUsed (bareAt bs (w .0)))) ws ≡ true
     → (ss : List Stream) → CountsTrue ss os → CountsTrue (writes (λ (n : StreamNo). n .0) (map freshStream ws) ss) os

@@ -19,10 +19,10 @@ use Rattle.records.specs.declared.Open.{Open}
 use Rattle.sharing.specs.Sharing.{conflict, conflicting, onStream, anyConflict}
 use Rattle.sharing.proofs.PairRule.{conflicting-sym}
 use Rattle.consistency.specs.Relations.{live}
-use Rattle.consistency.specs.Consistent.{openAt, OpensConsistent}
+use Rattle.consistency.specs.Consistent.{openAt, OpensConsistent, NoConflicts}
 use Rattle.store.specs.Store.{rowsWithOpenAt, rowsWithOpen}
 use Rattle.store.proofs.Sequences.Facts.{Joins}
-use Rattle.store.proofs.Sequences.Opens.Table.{Stands, Apart, replaced}
+use Rattle.store.proofs.Sequences.Opens.Table.{replaced, conflicts-set}
 
 -- the slot that an open takes
 pub record Taken (o : Open) (os : List Open) : Type 0 where
@@ -57,35 +57,26 @@ pub joins-used : {ss : List BareStream} {next : ℕ} {o : Open} → Joins ss nex
 unfolding openUsed
 joins-used {ss} {next} {o} j l = not-is (ne-eqb (o .handle .0) 0 (λ z. let w : ⊥ = omega (arith, j .handle) in w))
 
+-- the other opens have lower handles
 pub joined : {ss : List BareStream} {next : ℕ} {os : List Open} {o : Open} → OpensConsistent ss next os → Joins ss next o
-    → anyConflict (o .stream) (o .granted) (o .share) (live os) ≡ false
     → any (λ q. not (openUsed q)) os ≡ true
     → OpensConsistent ss (suc next) (rowsWithOpen o os)
-unfolding conflicting
-joined {ss} {next} {os} {o} c j n r =
+joined {ss} {next} {os} {o} c j r =
+    let t = taken o os r in
     rw (t .rows)
-    (replaced c (omega arith) (t .slot) o (λ z. absurd (not-both (joins-used j (c .nextAtLeast)) z)) (λ u. stands) (λ i u. apart i))
-  where
-    t : Taken o os
-    t = taken o os r
+    (replaced c (omega arith) (t .slot) o (λ z. absurd (not-both (joins-used j (c .nextAtLeast)) z)) (λ u. j .good)
+    (λ i w u e. let z : ⊥ = omega (arith, ap (λ (h : Handle). h .0) e, j .handle, c .slots .usedGood i u .handleBelow) in z))
 
-    stands : Stands ss (suc next) o
-    stands =
-        record {
-          grantable = j .grantable;
-          streamUsed = j .streamUsed;
-          streamFile = j .streamFile;
-          handleBelow = omega (arith, j .handle);
-        }
-
-    apart : (i : ℕ) → openUsed (openAt os i) ≡ true → Apart o (openAt os i)
-    apart i u =
-        record {
-          handlesDiffer =
-              λ e. let z : ⊥ = omega (arith, ap (λ (h : Handle). h .0) e, j .handle, c .handlesBelow i u) in z;
-          noConflict =
-              λ e. conflicting-sym o (openAt os i) ∙ no-conflict-at (o .stream) (o .granted) (o .share) os n i u (sym e);
-        }
+pub conflicts-joined : (o : Open) (os : List Open) → NoConflicts os
+    → anyConflict (o .stream) (o .granted) (o .share) (live os) ≡ false
+    → any (λ q. not (openUsed q)) os ≡ true
+    → NoConflicts (rowsWithOpen o os)
+unfolding conflicting
+conflicts-joined o os c n r =
+    let t = taken o os r in
+    rw (t .rows)
+    (conflicts-set os c (t .slot) o
+    (λ i w u e. conflicting-sym o (openAt os i) ∙ no-conflict-at (o .stream) (o .granted) (o .share) os n i u (sym e)))
 
 pub joined-live : (o : Open) (os : List Open) → any (λ q. not (openUsed q)) os ≡ true → openUsed o ≡ true
     → Permutation (live (rowsWithOpen o os)) (o ∷ live os)
