@@ -1,5 +1,6 @@
 // The audit: whether the tables are consistent (the paper's soundness), decided table by table. The Volume is never
 // passed inside a loop, and names are compared only where parent or file agree.
+use audit_conflicts::no_conflicts;
 use audit_counts::counts_true;
 use audit_files::files_consistent;
 use audit_opens::opens_consistent;
@@ -26,5 +27,8 @@ pub fn audit(v: Volume, t: OpenTable) -> bool
     if !opens_consistent(v, t) {
         return false;
     }
-    counts_true(v, t)
+    if !counts_true(v, t) {
+        return false;
+    }
+    no_conflicts(t)
 }

@@ -15,6 +15,10 @@ use records::Stream;
 use records::StreamNo;
 use records::Volume;
 use records::constants::ALL_ACCESS;
+use records::sizes::FILE_SLOTS;
+use records::sizes::LINK_SLOTS;
+use records::sizes::OPEN_SLOTS;
+use records::sizes::STREAM_SLOTS;
 
 fn low(number: u32) -> u16 {
     (number % 65536) as u16
@@ -92,11 +96,12 @@ fn open_of(line: Line) -> Open {
 // slot is past its end, that is answered here, and there is none.
 pub fn table_of(line: Line) -> u8 {
     let label = line.label;
-    let slot = line.value;
+    let slot = line.value as usize;
     let known = match label {
-        b'e' => slot < 128,
-        b'k' => slot < 192,
-        b'm' | b'n' => slot < 256,
+        b'e' => slot < FILE_SLOTS,
+        b'k' => slot < LINK_SLOTS,
+        b'm' => slot < STREAM_SLOTS,
+        b'n' => slot < OPEN_SLOTS,
         _ => label == b't',
     };
     if known {
@@ -111,9 +116,9 @@ pub fn changed_volume(v: Volume, line: Line, table: u8) -> Volume {
     let mut after = v;
     let slot = line.value as usize;
     match table {
-        b'e' => after.files[slot % 128] = file_of(line),
-        b'k' => after.links[slot % 192] = link_of(line),
-        b'm' => after.streams[slot % 256] = stream_of(line),
+        b'e' => after.files[slot % FILE_SLOTS] = file_of(line),
+        b'k' => after.links[slot % LINK_SLOTS] = link_of(line),
+        b'm' => after.streams[slot % STREAM_SLOTS] = stream_of(line),
         b't' => after.next_handle.0 = line.value as u64,
         _ => {}
     }
@@ -125,7 +130,7 @@ pub fn changed_opens(t: OpenTable, line: Line, table: u8) -> OpenTable {
     let mut after = t;
     let slot = line.value as usize;
     if table == b'n' {
-        after.rows[slot % 256] = open_of(line);
+        after.rows[slot % OPEN_SLOTS] = open_of(line);
     }
     after
 }
@@ -137,9 +142,9 @@ pub fn unknown() {
 
 // A volume of one line's records.
 fn volume_of(line: Line) -> Volume {
-    let files = [file_of(line); 128];
-    let links = [link_of(line); 192];
-    let streams = [stream_of(line); 256];
+    let files = [file_of(line); FILE_SLOTS];
+    let links = [link_of(line); LINK_SLOTS];
+    let streams = [stream_of(line); STREAM_SLOTS];
     Volume {
         read_only: false,
         next_handle: Handle(0),
@@ -153,7 +158,7 @@ fn volume_of(line: Line) -> Volume {
 // here they have the records of an empty line.
 pub fn fresh() -> Answer {
     let line = start(0);
-    let rows = [open_of(line); 256];
+    let rows = [open_of(line); OPEN_SLOTS];
     let masks = [ALL_ACCESS; 8];
     format::format(volume_of(line), OpenTable { rows }, masks, false)
 }

@@ -1,5 +1,6 @@
 // What has been read of a line.
 use libc::STDOUT_FILENO;
+use records::sizes::FILE_NAME_LIMIT;
 
 // Its kind is 0 in the name, then the byte that ended it. The label is the last byte before the last `=`. Then come the
 // word that is being read, as a number and as a name, and the words of the change before it, the last one first.
@@ -9,8 +10,8 @@ pub struct Line {
     pub last: u8,
     pub value: u32,
     pub length: usize,
-    pub units: [u16; 32],
-    pub name: [u16; 32],
+    pub units: [u16; FILE_NAME_LIMIT],
+    pub name: [u16; FILE_NAME_LIMIT],
     pub n1: u32,
     pub n2: u32,
     pub n3: u32,
@@ -25,7 +26,7 @@ pub struct Line {
 
 // The start of a change.
 pub fn start(kind: u8) -> Line {
-    let units = [0; 32];
+    let units = [0; FILE_NAME_LIMIT];
     Line {
         kind,
         label: 0,
@@ -56,7 +57,7 @@ fn shifted(line: Line) -> Line {
         last: 0,
         value: 0,
         length: 0,
-        units: [0; 32],
+        units: [0; FILE_NAME_LIMIT],
         name,
         n1: line.value,
         n2: line.n1,
@@ -77,7 +78,7 @@ fn labelled(line: Line) -> Line {
     after.label = line.last;
     after.value = 0;
     after.length = 0;
-    after.units = [0; 32];
+    after.units = [0; FILE_NAME_LIMIT];
     after
 }
 
@@ -98,7 +99,7 @@ fn unit_of(byte: u8) -> u16 {
 // A byte of a word.
 fn read(line: Line, byte: u8) -> Line {
     let mut after = line;
-    let at = line.length % 32;
+    let at = line.length % FILE_NAME_LIMIT;
     after.last = byte;
     after.value = with_digit(line.value, byte);
     after.length = at + 1;

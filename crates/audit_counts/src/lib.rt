@@ -10,6 +10,7 @@ use sharing::with_open;
 ghost use Prim.Native.Nat.{ℕ, _<_};
 ghost use mathlib.Core.Path.{_≡_};
 ghost use lib.ListN.{getD};
+ghost use Rattle.records.specs.Sizes.{streamSlots};
 ghost use Rattle.records.specs.Slots.{zeroCounts};
 ghost use Rattle.sharing.specs.Sharing.{countsOf};
 ghost use Rattle.consistency.specs.Relations.{live};
@@ -30,7 +31,7 @@ fn same_counts(c: ShareCounts, d: ShareCounts) -> bool
 // The counts of every stream, from the table of opens: the last row first, as each row comes in front of those counted. A
 // row that names no slot of the streams table is in none of them.
 fn counts_of_streams(t: OpenTable) -> [ShareCounts; STREAM_SLOTS]
-    ensures { λ r. ⌜ ((n : ℕ) → n < 256 → getD r n zeroCounts ≡ countsOf (record { 0 = n }) (live (t .rows))) ⌝ }
+    ensures { λ r. ⌜ ((n : ℕ) → n < streamSlots → getD r n zeroCounts ≡ countsOf (record { 0 = n }) (live (t .rows))) ⌝ }
 {
     let mut counts = [ZERO_COUNTS; STREAM_SLOTS];
     let mut i: usize = OPEN_SLOTS;

@@ -3,23 +3,27 @@ use records::File;
 use records::Volume;
 use records::constants::ALL_ACCESS;
 use records::constants::DIRECTORY;
+use records::constants::FILE_ATTRIBUTES;
+use records::sizes::ACCOUNTS;
+use records::sizes::FILE_SLOTS;
 use records::slots::file_used;
 use records::slots::is_directory;
 ghost use mathlib.Core.Path.{_≡_};
 ghost use lib.ListN.{replicate};
-ghost use Rattle.lists.specs.Lists.{all, same};
+ghost use Rattle.lists.specs.Lists.{same};
+ghost use Rattle.records.specs.Sizes.{accounts};
+ghost use Rattle.records.specs.Slots.{fileUsed};
 ghost use Rattle.consistency.specs.Relations.{validMasks};
-ghost use Rattle.consistency.specs.Test.{freeFile, usedFile, fileTest, filesTest};
-
-// The attributes that a file may have.
-const ATTRIBUTES: u32 = 0x3137;
+ghost use Rattle.consistency.specs.Slots.{slotTest};
+ghost use Rattle.consistency.specs.Good.{goodFile, isZeroFile};
+ghost use Rattle.consistency.specs.Test.{filesTest};
 
 // Whether each mask is within all access.
-pub fn valid_masks(masks: [u32; 8]) -> bool
+pub fn valid_masks(masks: [u32; ACCOUNTS]) -> bool
     ensures { λ r. ⌜ r ≡ validMasks masks ⌝ }
 {
     let mut account: usize = 0;
-    while account < 8 {
+    while account < ACCOUNTS {
         if !bits::within(masks[account], ALL_ACCESS) {
             return false;
         }
@@ -28,11 +32,11 @@ pub fn valid_masks(masks: [u32; 8]) -> bool
     true
 }
 
-fn zero_masks(masks: [u32; 8]) -> bool
-    ensures { λ r. ⌜ r ≡ same masks (replicate 8 0) ⌝ }
+fn zero_masks(masks: [u32; ACCOUNTS]) -> bool
+    ensures { λ r. ⌜ r ≡ same masks (replicate accounts 0) ⌝ }
 {
     let mut i: usize = 0;
-    while i < 8 {
+    while i < ACCOUNTS {
         if masks[i] != 0 {
             return false;
         }
@@ -41,19 +45,19 @@ fn zero_masks(masks: [u32; 8]) -> bool
     true
 }
 
-// A free slot is all zero.
-fn free_file(f: File) -> bool
-    ensures { λ r. ⌜ r ≡ freeFile f ⌝ }
+// What a free slot has beside its kind is zero.
+fn is_zero_file(f: File) -> bool
+    ensures { λ r. ⌜ r ≡ isZeroFile f ⌝ }
 {
     let masks = f.masks;
     f.attributes == 0 && zero_masks(masks)
 }
 
-// A used one has attributes that a file may have, the directory bit exactly on a directory, and valid masks.
-fn used_file(f: File) -> bool
-    ensures { λ r. ⌜ r ≡ usedFile f ⌝ }
+// A used slot has attributes that a file may have, the directory bit exactly on a directory, and valid masks.
+fn good_file(f: File) -> bool
+    ensures { λ r. ⌜ r ≡ goodFile f ⌝ }
 {
-    if !bits::within(f.attributes, ATTRIBUTES) {
+    if !bits::within(f.attributes, FILE_ATTRIBUTES) {
         return false;
     }
     let t = f.file_type;
@@ -65,12 +69,12 @@ fn used_file(f: File) -> bool
 }
 
 fn slot_consistent(f: File) -> bool
-    ensures { λ r. ⌜ r ≡ fileTest f ⌝ }
+    ensures { λ r. ⌜ r ≡ slotTest fileUsed goodFile isZeroFile f ⌝ }
 {
     if file_used(f) {
-        used_file(f)
+        good_file(f)
     } else {
-        free_file(f)
+        is_zero_file(f)
     }
 }
 
@@ -84,7 +88,7 @@ pub fn files_consistent(v: Volume) -> bool
         return false;
     }
     let mut i: usize = 0;
-    while i < 128 {
+    while i < FILE_SLOTS {
         let f = v.files[i];
         if !slot_consistent(f) {
             return false;

@@ -1,23 +1,28 @@
 -- What the audit's code computes of a link, and what the test asks.
 use Prim.Native.Nat.{_≤_, _<_}
-use mathlib.Core.Path.{_≡_, refl, ap}
-use mathlib.Core.Bool.{Bool, true, false, cond, not, _&&_}
+use mathlib.Core.Path.{_≡_, ap}
+use mathlib.Core.Bool.{Bool, true, false, not}
 use mathlib.Core.List.{List}
+use mathlib.Core.Logic.{⊎-elim}
 use native.Mathlib.Omega.{arith}
 use lib.Dec.{eqb}
-use lib.ListN.{length, getD, replicate, List·getD-eq-default}
+use lib.ListN.{length, getD, replicate}
 use borrow.Author.Tests.{not-false, eqb-true, eq-eqb, ne-eqb}
 use Rattle.lists.specs.Lists.{same}
 use Rattle.lists.proofs.Default.{getD-default}
-use Rattle.names.specs.Names.{validFileName}
+use Rattle.lists.proofs.Slots.{refuted}
 use Rattle.stored_names.specs.StoredNames.{units, wellStored}
-use Rattle.records.specs.Sizes.{fileNameLimit}
-use Rattle.records.specs.Slots.{isUsed, isDirectory, fileUsed, linkUsed, zeroFile}
+use Rattle.records.specs.Sizes.{fileSlots, fileNameLimit}
+use Rattle.records.specs.Slots.{fileUsed, linkUsed, zeroFile}
 use Rattle.tables.specs.Tables.{fileAt}
-use Rattle.records.specs.declared.FileNo.{FileNo}
 use Rattle.records.specs.declared.File.{File}
 use Rattle.records.specs.declared.Link.{Link}
-use Rattle.consistency.specs.Test.{freeLink, usedLink, linkTest, linkNamesDiffer}
+use Rattle.consistency.specs.Slots.{slotTest}
+use Rattle.consistency.specs.Good.{goodLink, isZeroLink, linkNamesDiffer}
+use Rattle.consistency.specs.Test.{goodLinkOf}
+use Rattle.consistency.proofs.Slots.{slot-passes}
+use Rattle.consistency.proofs.Numbered.{file-in, directory-file}
+use Rattle.consistency.proofs.Links.{link-decides}
 use Rattle.audit_names.proofs.StoredUnits.{zeros-stored}
 
 -- a name without a first unit is well stored exactly when it is all zero
@@ -25,63 +30,32 @@ pub free-name : (l : Link) → linkUsed l ≡ false → wellStored fileNameLimit
 unfolding linkUsed
 free-name l u = zeros-stored fileNameLimit (l .name) (eqb-true (getD (l .name) 0 0) 0 (not-false (eqb (getD (l .name) 0 0) 0) u))
 
--- past the end of the files there is a free slot
-past-files : (fs : List File) (f : FileNo) → length fs ≤ f .0 → fileAt fs f ≡ zeroFile
-unfolding fileAt
-past-files fs f h = List·getD-eq-default fs zeroFile h
+-- a slot, used or free
+abbrev pub linkTest : List File → Link → Bool
+linkTest fs = slotTest linkUsed (goodLinkOf fs) isZeroLink
 
--- a conjunction with a part that fails
-third-fails : (a : Bool) {u : Bool} (b : Bool) → u ≡ false → (a && u && b) ≡ false
-third-fails true b e = rw e
-third-fails false b e = refl
+module _ (fs : List File) (l : Link) (size : length fs ≡ fileSlots) where
+  -- a slot fails that names a file, or a parent, past the end of the files
+  pub past-file : fileSlots ≤ l .file .0 → linkTest fs l ≡ false
+  unfolding fileUsed
+  past-file h =
+      refuted _
+      (λ t.
+      ⊎-elim (λ g. let z : ⊥ = omega (arith, file-in fs (l .file) (g .namesUsedFile)) in z)
+      (λ e. let z : ⊥ = omega (arith, ap (λ (m : Link). m .file .0) e) in z) (slot-passes (link-decides fs) l t))
 
-last-fails : (a : Bool) {u : Bool} → u ≡ false → (a && u) ≡ false
-last-fails true e = e
-last-fails false e = refl
-
--- so a slot fails that names a file, or a parent, past it
-module _ (fs : List File) (l : Link) (size : length fs ≡ 128) where
-  used-past-file : 128 ≤ l .file .0 → usedLink fs l ≡ false
-  unfolding usedLink fileUsed isUsed
-  used-past-file h =
-      third-fails (wellStored fileNameLimit (l .name) && validFileName fileNameLimit (units (l .name)))
-      (isDirectory (fileAt fs (l .parent) .«file_type»)) (ap fileUsed (past-files fs (l .file) (omega arith)))
-
-  free-past-file : 128 ≤ l .file .0 → freeLink l ≡ false
-  unfolding freeLink
-  free-past-file h =
-      third-fails (eqb (l .parent .0) 0) (same (l .name) (replicate fileNameLimit 0))
-      (ne-eqb (l .file .0) 0 (λ e. let z : ⊥ = omega arith in z))
-
-  used-past-parent : 128 ≤ l .parent .0 → usedLink fs l ≡ false
-  unfolding usedLink isDirectory
-  used-past-parent h =
-      last-fails
-      (wellStored fileNameLimit (l .name) && validFileName fileNameLimit (units (l .name)) && fileUsed (fileAt fs (l .file)))
-      (ap (λ (f : File). isDirectory (f .«file_type»)) (past-files fs (l .parent) (omega arith)))
-
-  free-past-parent : 128 ≤ l .parent .0 → freeLink l ≡ false
-  unfolding freeLink
-  free-past-parent h = rw (ne-eqb (l .parent .0) 0 (λ e. let z : ⊥ = omega arith in z))
-
-  either : (b : Bool) {x y : Bool} → x ≡ false → y ≡ false → cond b x y ≡ false
-  either true p q = p
-  either false p q = q
-
-  pub past-file : 128 ≤ l .file .0 → linkTest fs l ≡ false
-  past-file h = either (linkUsed l) (used-past-file h) (free-past-file h)
-
-  pub past-parent : 128 ≤ l .parent .0 → linkTest fs l ≡ false
-  past-parent h = either (linkUsed l) (used-past-parent h) (free-past-parent h)
+  pub past-parent : fileSlots ≤ l .parent .0 → linkTest fs l ≡ false
+  past-parent h =
+      refuted _
+      (λ t.
+      ⊎-elim (λ g. let z : ⊥ = omega (arith, file-in fs (l .parent) (directory-file fs _ (g .parentDirectory))) in z)
+      (λ e. let z : ⊥ = omega (arith, ap (λ (m : Link). m .parent .0) e) in z) (slot-passes (link-decides fs) l t))
 
   -- any other is tested by the types of its file and its parent, whatever stands past the end
-  pub slot-is : (d : File) → l .file .0 < 128 → l .parent .0 < 128
-      → cond (linkUsed l)
-      (wellStored fileNameLimit (l .name) && validFileName fileNameLimit (units (l .name))
-      && isUsed (getD fs (l .file .0) d .«file_type»)
-      && isDirectory (getD fs (l .parent .0) d .«file_type»)) (freeLink l)
+  pub slot-is : (d : File) → l .file .0 < fileSlots → l .parent .0 < fileSlots
+      → slotTest linkUsed (goodLink (getD fs (l .file .0) d .«file_type») (getD fs (l .parent .0) d .«file_type»)) isZeroLink l
       ≡ linkTest fs l
-  unfolding usedLink fileUsed fileAt
+  unfolding fileAt
   slot-is d h k =
       rw (getD-default fs (l .file .0) d zeroFile (omega arith), getD-default fs (l .parent .0) d zeroFile (omega arith))
 

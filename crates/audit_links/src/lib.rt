@@ -6,21 +6,26 @@ use names::valid_file_name;
 use records::FileType;
 use records::Link;
 use records::Volume;
+use records::sizes::FILE_NAME_LIMIT;
+use records::sizes::FILE_SLOTS;
+use records::sizes::LINK_SLOTS;
 use records::slots::is_directory;
 use records::slots::is_used;
 use records::slots::link_used;
 ghost use mathlib.Core.Path.{_≡_};
-ghost use mathlib.Core.Bool.{cond, not, false, _&&_, _||_};
+ghost use mathlib.Core.Bool.{not, false, _&&_, _||_};
 ghost use Rattle.lists.specs.Lists.{all, keep, pairs};
 ghost use Rattle.names.specs.Names.{validFileName};
-ghost use Rattle.stored_names.specs.StoredNames.{units, wellStored};
+ghost use Rattle.stored_names.specs.StoredNames.{units};
 ghost use Rattle.records.specs.Sizes.{fileNameLimit};
-ghost use Rattle.records.specs.Slots.{isUsed, isDirectory, linkUsed};
-ghost use Rattle.consistency.specs.Test.{freeLink, linkTest, linkNamesDiffer};
+ghost use Rattle.records.specs.Slots.{linkUsed};
+ghost use Rattle.consistency.specs.Slots.{slotTest};
+ghost use Rattle.consistency.specs.Good.{goodLink, isZeroLink, linkNamesDiffer};
+ghost use Rattle.consistency.specs.Test.{goodLinkOf};
 
-// A free slot is all zero. Its name has no first unit, so it is well stored exactly when it is all zero.
-fn free_link(l: Link) -> bool
-    ensures { λ r. ⌜ (linkUsed l ≡ false → r ≡ freeLink l) ⌝ }
+// What a free slot has is zero. Its name has no first unit, so it is well stored exactly when it is all zero.
+fn is_zero_link(l: Link) -> bool
+    ensures { λ r. ⌜ (linkUsed l ≡ false → r ≡ isZeroLink l) ⌝ }
 {
     if l.parent.0 != 0 {
         return false;
@@ -33,7 +38,7 @@ fn free_link(l: Link) -> bool
 }
 
 // The name of a link is a valid one.
-fn valid_stored_name(name: [u16; 32]) -> bool
+fn valid_stored_name(name: [u16; FILE_NAME_LIMIT]) -> bool
     ensures { λ r. ⌜ r ≡ validFileName fileNameLimit (units name) ⌝ }
 {
     let n = name_length(name);
@@ -41,11 +46,8 @@ fn valid_stored_name(name: [u16; 32]) -> bool
 }
 
 // A used one has a valid name, of a used file in a directory, of which the types are given.
-fn used_link(l: Link, of: FileType, above: FileType) -> bool
-    ensures { λ r.
-        ⌜ r
-        ≡ (wellStored fileNameLimit (l .name) && validFileName fileNameLimit (units (l .name)) && isUsed of
-        && isDirectory above) ⌝ }
+fn good_link(l: Link, of: FileType, above: FileType) -> bool
+    ensures { λ r. ⌜ r ≡ goodLink of above l ⌝ }
 {
     let name = l.name;
     if !well_stored(name) {
@@ -58,33 +60,28 @@ fn used_link(l: Link, of: FileType, above: FileType) -> bool
 }
 
 fn slot_consistent(l: Link, of: FileType, above: FileType) -> bool
-    ensures { λ r.
-        ⌜ r
-        ≡ cond (linkUsed l)
-        (wellStored fileNameLimit (l .name) && validFileName fileNameLimit (units (l .name)) && isUsed of
-        && isDirectory above)
-        (freeLink l) ⌝ }
+    ensures { λ r. ⌜ r ≡ slotTest linkUsed (goodLink of above) isZeroLink l ⌝ }
 {
     if link_used(l) {
-        used_link(l, of, above)
+        good_link(l, of, above)
     } else {
-        free_link(l)
+        is_zero_link(l)
     }
 }
 
 // Each slot passes. No slot that does, used or free, has a number past the files.
 fn slots_consistent(v: Volume) -> bool
-    ensures { λ r. ⌜ r ≡ all (linkTest (v .files)) (v .links) ⌝ }
+    ensures { λ r. ⌜ r ≡ all (slotTest linkUsed (goodLinkOf (v .files)) isZeroLink) (v .links) ⌝ }
 {
     let mut i: usize = 0;
-    while i < 192 {
+    while i < LINK_SLOTS {
         let l = v.links[i];
         let n = l.file.0 as usize;
         let p = l.parent.0 as usize;
-        if n >= 128 {
+        if n >= FILE_SLOTS {
             return false;
         }
-        if p >= 128 {
+        if p >= FILE_SLOTS {
             return false;
         }
         let file = v.files[n];
@@ -118,11 +115,11 @@ fn names_differ(v: Volume) -> bool
     ensures { λ r. ⌜ r ≡ pairs linkNamesDiffer (keep linkUsed (v .links)) ⌝ }
 {
     let mut i: usize = 0;
-    while i < 192 {
+    while i < LINK_SLOTS {
         let l = v.links[i];
         if link_used(l) {
             let mut j = i + 1;
-            while j < 192 {
+            while j < LINK_SLOTS {
                 let m = v.links[j];
                 if !differ(l, m) {
                     return false;
@@ -137,7 +134,7 @@ fn names_differ(v: Volume) -> bool
 
 // Each slot passes, and every two names of one directory differ.
 pub fn link_slots_consistent(v: Volume) -> bool
-    ensures { λ r. ⌜ r ≡ (all (linkTest (v .files)) (v .links)
+    ensures { λ r. ⌜ r ≡ (all (slotTest linkUsed (goodLinkOf (v .files)) isZeroLink) (v .links)
         && pairs linkNamesDiffer (keep linkUsed (v .links))) ⌝ }
 {
     if !slots_consistent(v) {

@@ -1,39 +1,34 @@
-// The audit of the open table: each row by itself, then every two used rows.
+// The audit of the open table: each row by itself, then the handles of every two used rows.
 use records::Open;
 use records::OpenTable;
 use records::Stream;
 use records::Volume;
 use records::constants::ALL_ACCESS;
+use records::constants::SHARE_ALL;
 use records::sizes::OPEN_SLOTS;
 use records::sizes::STREAM_SLOTS;
 use records::slots::open_used;
 use records::slots::stream_used;
 ghost use mathlib.Core.Path.{_≡_};
-ghost use mathlib.Core.Bool.{cond, not, _&&_};
-ghost use lib.Dec.{eqb, leb, ltb};
-ghost use Rattle.bits.specs.Bits.{within};
 ghost use Rattle.lists.specs.Lists.{pairs};
-ghost use Rattle.records.specs.Constants.{allAccess};
-ghost use Rattle.records.specs.Slots.{openUsed, streamUsed};
-ghost use Rattle.records.specs.Namespace.{namespace};
+ghost use Rattle.records.specs.Slots.{openUsed};
+ghost use Rattle.records.specs.Namespace.{bare, namespace};
 ghost use Rattle.consistency.specs.Relations.{live};
-ghost use Rattle.consistency.specs.Test.{freeOpen, handlesDiffer, opensAgree, opensTest};
+ghost use Rattle.consistency.specs.Slots.{slotTest};
+ghost use Rattle.consistency.specs.Good.{goodOpen, isZeroOpen, handlesDiffer};
+ghost use Rattle.consistency.specs.Test.{opensTest};
 
-// All sharing modes.
-const SHARE_ALL: u32 = 7;
-
-// A free slot is all zero.
-fn free_open(o: Open) -> bool
-    ensures { λ r. ⌜ r ≡ freeOpen o ⌝ }
+// What a free slot has beside its handle is zero.
+fn is_zero_open(o: Open) -> bool
+    ensures { λ r. ⌜ r ≡ isZeroOpen o ⌝ }
 {
     (o.file.0 == 0) & (o.stream.0 == 0) & (o.granted == 0) & (o.share == 0)
 }
 
 // A used slot, with the stream that it names: the stream is used and its file is the open's, some access is granted and
 // none but what there is, the sharing mode is one, and the handle was given out.
-fn used_open(o: Open, s: Stream, next: u64) -> bool
-    ensures { λ r. ⌜ r ≡ (streamUsed s && eqb (o .file .0) (s .file .0) && not (eqb (o .granted) 0)
-        && within (o .granted) allAccess && leb (o .share) 7 && ltb (o .handle .0) next) ⌝ }
+fn good_open(o: Open, s: Stream, next: u64) -> bool
+    ensures { λ r. ⌜ r ≡ goodOpen (bare s) next o ⌝ }
 {
     stream_used(s)
         & (o.file.0 == s.file.0)
@@ -45,34 +40,24 @@ fn used_open(o: Open, s: Stream, next: u64) -> bool
 
 // A row by itself, with the stream that it names.
 fn row_consistent(o: Open, s: Stream, next: u64) -> bool
-    ensures { λ r. ⌜ r ≡ cond (openUsed o)
-        (streamUsed s && eqb (o .file .0) (s .file .0) && not (eqb (o .granted) 0)
-        && within (o .granted) allAccess && leb (o .share) 7 && ltb (o .handle .0) next)
-        (freeOpen o) ⌝ }
+    ensures { λ r. ⌜ r ≡ slotTest openUsed (goodOpen (bare s) next) isZeroOpen o ⌝ }
 {
     if open_used(o) {
-        used_open(o, s, next)
+        good_open(o, s, next)
     } else {
-        free_open(o)
+        is_zero_open(o)
     }
 }
 
-// Two used rows: their handles differ, and on one stream they don't conflict.
-fn rows_agree(o: Open, q: Open) -> bool
-    ensures { λ r. ⌜ r ≡ (handlesDiffer o q && opensAgree o q) ⌝ }
+fn handles_differ(o: Open, q: Open) -> bool
+    ensures { λ r. ⌜ r ≡ handlesDiffer o q ⌝ }
 {
-    if o.handle.0 == q.handle.0 {
-        return false;
-    }
-    if o.stream.0 == q.stream.0 {
-        return !sharing::conflicting(o, q);
-    }
-    true
+    o.handle.0 != q.handle.0
 }
 
 // Every two used rows.
-fn all_rows_agree(t: OpenTable) -> bool
-    ensures { λ r. ⌜ r ≡ pairs (λ o q. handlesDiffer o q && opensAgree o q) (live (t .rows)) ⌝ }
+fn all_handles_differ(t: OpenTable) -> bool
+    ensures { λ r. ⌜ r ≡ pairs handlesDiffer (live (t .rows)) ⌝ }
 {
     let mut i: usize = 0;
     while i < OPEN_SLOTS {
@@ -81,7 +66,7 @@ fn all_rows_agree(t: OpenTable) -> bool
             let mut j = i + 1;
             while j < OPEN_SLOTS {
                 let q = t.rows[j];
-                if open_used(q) && !rows_agree(o, q) {
+                if open_used(q) && !handles_differ(o, q) {
                     return false;
                 }
                 j += 1;
@@ -113,5 +98,5 @@ pub fn opens_consistent(v: Volume, t: OpenTable) -> bool
         }
         i += 1;
     }
-    all_rows_agree(t)
+    all_handles_differ(t)
 }

@@ -9,44 +9,38 @@ use lib.Dec.{eqb}
 use lib.ListN.{length, getD, set, drop}
 use borrow.Author.Tests.{eq-eqb, ne-eqb}
 use Rattle.lists.specs.Lists.{all, count, keep}
-use Rattle.lists.proofs.Tests.{and-left, and-right, cond-true}
+use Rattle.lists.proofs.Tests.{not-both, and-left, and-right}
 use Rattle.lists.proofs.Set.{set-cases}
 use Rattle.lists.proofs.Keep.{count-yes, count-no}
 use Rattle.lists.proofs.Passes.{drop-back}
-use Rattle.names.specs.Names.{validFileName}
-use Rattle.stored_names.specs.StoredNames.{units, wellStored}
-use Rattle.records.specs.Sizes.{fileNameLimit}
-use Rattle.records.specs.Slots.{fileUsed, linkUsed, isDirectory}
-use Rattle.tables.specs.Tables.{fileAt}
+use Rattle.records.specs.Sizes.{fileSlots}
+use Rattle.records.specs.Slots.{fileUsed, linkUsed}
 use Rattle.records.specs.declared.FileNo.{FileNo}
 use Rattle.records.specs.declared.File.{File}
 use Rattle.records.specs.declared.Link.{Link}
 use Rattle.consistency.specs.Relations.{linkTo, parentOf, reaches}
-use Rattle.consistency.specs.Test.{freeLink, usedLink, linkTest, linksOfFile}
-use Rattle.consistency.proofs.Slots.{same-file}
-use Rattle.consistency.proofs.Numbered.{file-in, directory-file}
-use Rattle.consistency.proofs.Parents.{link-to-used, links-kept, reaches-kept}
+use Rattle.consistency.specs.Slots.{slotTest}
+use Rattle.consistency.specs.Good.{isZeroLink}
+use Rattle.consistency.specs.Test.{goodLinkOf, linksOfFile}
+use Rattle.consistency.proofs.Slots.{slot-good}
+use Rattle.consistency.proofs.Numbered.{same-file, fails-iff, file-in, directory-file}
+use Rattle.consistency.proofs.Relations.{link-to-iff}
+use Rattle.consistency.proofs.Links.{link-decides}
+use Rattle.consistency.proofs.Parents.{links-kept, reaches-kept}
 
 -- a link names the file, or not
 pub names-it : (f : FileNo) (l : Link) → linkUsed l ≡ true → f .0 ≡ l .file .0 → linkTo f l ≡ true
-unfolding linkTo
-names-it f l u e = rw u (eq-eqb (l .file .0) (f .0) (sym e))
+names-it f l u e = link-to-iff f l .1 (u, same-file (l .file) f (sym e))
 
 pub names-other : (f : FileNo) (l : Link) → (f .0 ≡ l .file .0 → ⊥) → linkTo f l ≡ false
-unfolding linkTo
-names-other f l n = rw (ne-eqb (l .file .0) (f .0) (λ e. n (sym e))) (go (linkUsed l))
-  where
-    go : (b : Bool) → (b && false) ≡ false
-    go true = refl
-    go false = refl
+names-other f l n = fails-iff (link-to-iff f l) .1 (λ h. n (sym (ap (λ (g : FileNo). g .0) (h .1))))
 
 pub free-names : (f : FileNo) (l : Link) → linkUsed l ≡ false → linkTo f l ≡ false
-unfolding linkTo
-free-names f l u = rw u
+free-names f l u = fails-iff (link-to-iff f l) .1 (λ h. not-both (h .0) u)
 
 -- a table has, for each file, what the links say of it
 abbrev pub Noted : (FileNo → List Link → ℕ) → List ℕ → List Link → Type 0
-Noted what xs ls = (f : FileNo) → f .0 < 128 → getD xs (f .0) 0 ≡ what f ls
+Noted what xs ls = (f : FileNo) → f .0 < fileSlots → getD xs (f .0) 0 ≡ what f ls
 
 -- what a link says of one file only: of a file that it does not name it says nothing
 module _ (what : FileNo → List Link → ℕ)
@@ -54,7 +48,7 @@ module _ (what : FileNo → List Link → ℕ)
     (xs : List ℕ) (ls : List Link) (i : ℕ) (d : Link) (positive : 0 < i) (inside : i ≤ length ls) where
   -- one link more, which names no file of the table
   pub noted-skip : Noted what xs (drop i ls)
-      → (linkUsed (getD ls (i - 1) d) ≡ false) ⊎ (128 ≤ getD ls (i - 1) d .file .0) → Noted what xs (drop (i - 1) ls)
+      → (linkUsed (getD ls (i - 1) d) ≡ false) ⊎ (fileSlots ≤ getD ls (i - 1) d .file .0) → Noted what xs (drop (i - 1) ls)
   noted-skip n s f h =
       n f h
       ∙ sym (other f (getD ls (i - 1) d) (drop i ls)
@@ -63,7 +57,7 @@ module _ (what : FileNo → List Link → ℕ)
       ∙ ap (what f) (sym (drop-back ls i d positive inside))
 
   -- one link more, of which y is noted at its file
-  pub noted-set : Noted what xs (drop i ls) → (y : ℕ) → length xs ≡ 128 → getD ls (i - 1) d .file .0 < 128
+  pub noted-set : Noted what xs (drop i ls) → (y : ℕ) → length xs ≡ fileSlots → getD ls (i - 1) d .file .0 < fileSlots
       → ((f : FileNo) → f .0 ≡ getD ls (i - 1) d .file .0 → y ≡ what f (getD ls (i - 1) d ∷ drop i ls))
       → Noted what (set xs (getD ls (i - 1) d .file .0) y) (drop (i - 1) ls)
   noted-set n y k b w f h =
@@ -85,7 +79,7 @@ unfolding parentOf
 parent-here f l ls e = rw (e, parentOf)
 
 -- one link more: the number that stands at its file goes up by one
-pub count-more : (xs : List ℕ) (l : Link) (ls : List Link) → linkUsed l ≡ true → l .file .0 < 128
+pub count-more : (xs : List ℕ) (l : Link) (ls : List Link) → linkUsed l ≡ true → l .file .0 < fileSlots
     → Noted (λ f ms. count (linkTo f) ms) xs ls
     → (f : FileNo) → f .0 ≡ l .file .0 → getD xs (l .file .0) 0 + 1 ≡ count (linkTo f) (l ∷ ls)
 count-more xs l ls u b n f e =
@@ -93,26 +87,21 @@ count-more xs l ls u b n f e =
 
 -- where each link passes its test, a parent is no further than the files
 module _ (fs : List File) where
-  parent-there : (l : Link) → linkUsed l ≡ true → linkTest fs l ≡ true → l .parent .0 < length fs
-  unfolding usedLink
-  parent-there l u h =
-      file-in fs (l .parent)
-      (directory-file fs (l .parent)
-      (and-right
-      (wellStored fileNameLimit (l .name)
-      && validFileName fileNameLimit (units (l .name))
-      && fileUsed (fileAt fs (l .file)))
-      (isDirectory (fileAt fs (l .parent) .«file_type»)) (sym (cond-true (usedLink fs l) (freeLink l) u) ∙ h)))
+  abbrev linkTest : Link → Bool
+  linkTest = slotTest linkUsed (goodLinkOf fs) isZeroLink
 
-  pub parent-in : (ls : List Link) → all (linkTest fs) ls ≡ true → (f : FileNo) → f .0 < length fs → parentOf ls f .0 < length fs
+  parent-there : (l : Link) → linkUsed l ≡ true → linkTest l ≡ true → l .parent .0 < length fs
+  parent-there l u h = file-in fs (l .parent) (directory-file fs _ (slot-good (link-decides fs) l u h .parentDirectory))
+
+  pub parent-in : (ls : List Link) → all linkTest ls ≡ true → (f : FileNo) → f .0 < length fs → parentOf ls f .0 < length fs
   unfolding all parentOf
   parent-in [] h f b = b
   parent-in (l ∷ ls) h f b =
-      go (linkTo f l) refl (parent-in ls (and-right (linkTest fs l) (all (linkTest fs) ls) h) f b)
+      go (linkTo f l) refl (parent-in ls (and-right (linkTest l) (all linkTest ls) h) f b)
     where
       go : (t : Bool) → linkTo f l ≡ t → parentOf ls f .0 < length fs → parentOf (l ∷ ls) f .0 < length fs
       go true e k =
-          let z = parent-there l (link-to-used f l e) (and-left (linkTest fs l) (all (linkTest fs) ls) h) in
+          let z = parent-there l (link-to-iff f l .0 e .0) (and-left (linkTest l) (all linkTest ls) h) in
           omega (arith, parent-here f l ls e)
       go false e k = omega (arith, parent-other f l ls e)
 
@@ -129,14 +118,14 @@ module _ (ls : List Link) (n : ℕ) (f : File) (used : fileUsed f ≡ true) wher
   abbrev wanted : ℕ
   wanted = cond (eqb n 0) 0 1
 
-  linked-is : linksOfFile (keep linkUsed ls) n f ≡ (eqb (count (linkTo number) ls) wanted && reaches ls 128 number)
+  linked-is : linksOfFile (keep linkUsed ls) n f ≡ (eqb (count (linkTo number) ls) wanted && reaches ls fileSlots number)
   unfolding linksOfFile
-  linked-is = rw (used, links-kept number ls, reaches-kept ls 128 number)
+  linked-is = rw (used, links-kept number ls, reaches-kept ls fileSlots number)
 
   pub wrong-count : (count (linkTo number) ls ≡ wanted → ⊥) → linksOfFile (keep linkUsed ls) n f ≡ false
   wrong-count e = linked-is ∙ rw (ne-eqb (count (linkTo number) ls) wanted e)
 
-  pub right-count : count (linkTo number) ls ≡ wanted → linksOfFile (keep linkUsed ls) n f ≡ reaches ls 128 number
+  pub right-count : count (linkTo number) ls ≡ wanted → linksOfFile (keep linkUsed ls) n f ≡ reaches ls fileSlots number
   right-count e = linked-is ∙ rw (eq-eqb (count (linkTo number) ls) wanted e)
 
 -- the root is here

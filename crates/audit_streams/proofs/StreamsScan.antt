@@ -7,66 +7,52 @@ use mathlib.Core.List.{List, map}
 use mathlib.Core.Logic.{_⊎_, inl, inr, ⊎-elim}
 use native.Mathlib.Omega.{arith}
 use lib.Dec.{eqb}
-use lib.ListN.{length, getD, set, replicate, length-map, length-replicate, length-set, List·getD-eq-default}
-use borrow.Author.Tests.{eq-eqb, ne-eqb}
+use lib.ListN.{length, getD, set, replicate, length-map, length-replicate, length-set}
+use borrow.Author.Tests.{eq-eqb}
 use Rattle.lists.specs.Lists.{all, allFrom, count, isEmpty, keep, pairs, same}
-use Rattle.lists.proofs.Tests.{and-left}
 use Rattle.lists.proofs.Default.{getD-default}
-use Rattle.lists.proofs.Keep.{count-keep, count-same}
+use Rattle.lists.proofs.Slots.{refuted}
+use Rattle.lists.proofs.Keep.{count-same}
 use Rattle.lists.proofs.Sweeps.{all-map, pairs-map, keep-map, count-map, numbered-same, keyed, ones, KeyedCounts, keyed-start, keyed-done, keyed-fits, keyed-adds, keyed-skips}
-use Rattle.names.specs.Names.{validStreamName}
-use Rattle.stored_names.specs.StoredNames.{units, wellStored}
-use Rattle.records.specs.Sizes.{streamSlots, streamNameLimit}
-use Rattle.records.specs.Slots.{isUsed, isDirectory, fileUsed, streamUsed, zeroFile}
+use Rattle.stored_names.specs.StoredNames.{units}
+use Rattle.records.specs.Sizes.{streamSlots}
+use Rattle.records.specs.Slots.{isDirectory, fileUsed, streamUsed, zeroFile}
 use Rattle.tables.specs.Tables.{fileAt}
 use Rattle.records.specs.Namespace.{BareStream, bareUsed, bare}
 use Rattle.records.specs.declared.FileNo.{FileNo}
-use Rattle.records.specs.declared.FileType.{FileType}
 use Rattle.records.specs.declared.File.{File}
 use Rattle.records.specs.declared.Stream.{Stream}
 use Rattle.consistency.specs.Relations.{streamOf, unnamedOf}
-use Rattle.consistency.specs.Test.{sameBool, freeStream, usedStream, streamTest, streamNamesDiffer, streamsOfFile, streamsTest}
+use Rattle.consistency.specs.Slots.{slotTest, slotsTest}
+use Rattle.consistency.specs.Good.{goodStream, isZeroStream, streamNamesDiffer}
+use Rattle.consistency.specs.Test.{goodStreamOf, streamsOfFile, streamsTest}
+use Rattle.consistency.proofs.Slots.{slot-passes}
+use Rattle.consistency.proofs.Numbered.{file-in}
+use Rattle.consistency.proofs.Streams.{stream-decides, streams-kept, unnamed-kept}
 
--- a stream's test, with the type of its file
-abbrev pub typedTest : FileType → Stream → Bool
-typedTest of s =
-    cond (streamUsed s)
-    (wellStored streamNameLimit (s .name)
-    && validStreamName streamNameLimit (units (s .name))
-    && isUsed of
-    && sameBool (isDirectory (s .«stream_type»)) (isDirectory of))
-    (freeStream (bare s))
+-- a slot, used or free
+abbrev pub streamTest : List File → BareStream → Bool
+streamTest fs = slotTest bareUsed (goodStreamOf fs) isZeroStream
 
 module _ (fs : List File) (s : Stream) where
-  slot-typed : (d : File) → s .file .0 < length fs → streamTest fs (bare s) ≡ typedTest (getD fs (s .file .0) d .«file_type») s
-  unfolding usedStream bareUsed streamUsed fileUsed fileAt bare
-  slot-typed d h = rw (usedStream, getD-default fs (s .file .0) zeroFile d h)
-
-  -- what the code found of the stream
+  -- what the code found of the stream, by the type of its file
   pub slot-found : (d : File) {found b : Bool} → s .file .0 < length fs
-      → found ≡ typedTest (getD fs (s .file .0) d .«file_type») s → found ≡ b → streamTest fs (bare s) ≡ b
-  slot-found d h e f = slot-typed d h ∙ sym e ∙ f
+      → found ≡ slotTest bareUsed (goodStream (getD fs (s .file .0) d .«file_type»)) isZeroStream (bare s)
+      → found ≡ b → streamTest fs (bare s) ≡ b
+  unfolding fileAt bare
+  slot-found d h e f =
+      ap (λ (x : File). slotTest bareUsed (goodStream (x .«file_type»)) isZeroStream (bare s)) (getD-default fs (s .file .0) zeroFile d h)
+      ∙ sym e
+      ∙ f
 
-  -- a stream whose file is no slot: as a used one it is of a free file, and a free one is not all zero
+  -- a stream whose file is no slot fails
   pub slot-past : length fs ≤ s .file .0 → 0 < length fs → streamTest fs (bare s) ≡ false
-  unfolding usedStream bareUsed fileUsed fileAt isUsed freeStream bare
-  slot-past h positive = go (bareUsed (bare s)) refl
-    where
-      any-false : (a c : Bool) → ((a && false) && c) ≡ false
-      any-false true c = refl
-      any-false false c = refl
-
-      of-free : usedStream fs (bare s) ≡ false
-      of-free =
-          rw (usedStream, List·getD-eq-default fs zeroFile {n = s .file .0} h)
-          (any-false (wellStored streamNameLimit (s .name) && validStreamName streamNameLimit (units (s .name))) _)
-
-      not-zero : freeStream (bare s) ≡ false
-      not-zero = rw (freeStream, ne-eqb (s .file .0) 0 (λ e. let z : ⊥ = omega arith in z))
-
-      go : (b : Bool) → bareUsed (bare s) ≡ b → streamTest fs (bare s) ≡ false
-      go true e = rw e of-free
-      go false e = rw e not-zero
+  unfolding fileUsed bare
+  slot-past h positive =
+      refuted _
+      (λ t.
+      ⊎-elim (λ g. let z : ⊥ = omega (arith, file-in fs (s .file) (g .namesUsedFile)) in z)
+      (λ e. let z : ⊥ = omega (arith, ap (λ (b : BareStream). b .file .0) e) in z) (slot-passes (stream-decides fs) (bare s) t))
 
 -- every two used streams
 abbrev pub differ : Stream → Stream → Bool
@@ -107,7 +93,7 @@ module _ (ss : List Stream) (n : ℕ) where
   unfolding streamOf bareUsed streamUsed bare
   count-of-file =
       sym
-      (count-keep bareUsed (streamOf (file n)) (λ s e. and-left (bareUsed s) (eqb (s .file .0) n) e) (map bare ss)
+      (streams-kept (file n) (map bare ss)
       ∙ count-map bare (streamOf (file n)) ss
       ∙ count-same (λ s. streamOf (file n) (bare s)) (keyed fileOf streamUsed ss n)
       (λ s. swap2 (streamUsed s) (eqb (s .file .0) n)) ss)
@@ -116,11 +102,7 @@ module _ (ss : List Stream) (n : ℕ) where
   unfolding unnamedOf streamOf bareUsed streamUsed bare
   count-unnamed =
       sym
-      (count-keep bareUsed (unnamedOf (file n))
-      (λ s e.
-      and-left (bareUsed s) (eqb (s .file .0) n)
-      (and-left (bareUsed s && eqb (s .file .0) n) (isEmpty (units (s .name))) e))
-      (map bare ss)
+      (unnamed-kept (file n) (map bare ss)
       ∙ count-map bare (unnamedOf (file n)) ss
       ∙ count-same (λ s. unnamedOf (file n) (bare s)) (keyed fileOf emptyUsed ss n)
       (λ s. swap3 (streamUsed s) (eqb (s .file .0) n) (isEmpty (units (s .name)))) ss)
@@ -225,5 +207,5 @@ pub streams-parts : (fs : List File) (ss : List Stream) → length ss ≡ stream
     ≡ (all (streamTest fs) (map bare ss)
     && pairs streamNamesDiffer (keep bareUsed (map bare ss))
     && allFrom (streamsOfFile (keep bareUsed (map bare ss))) 0 fs)
-unfolding streamsTest
+unfolding streamsTest slotsTest
 streams-parts fs ss l = rw (streamsTest, eq-eqb (length (map bare ss)) streamSlots (length-map ss bare ∙ l))

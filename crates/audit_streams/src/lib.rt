@@ -7,6 +7,7 @@ use records::FileType;
 use records::Stream;
 use records::Volume;
 use records::sizes::FILE_SLOTS;
+use records::sizes::STREAM_NAME_LIMIT;
 use records::sizes::STREAM_SLOTS;
 use records::slots::file_used;
 use records::slots::is_directory;
@@ -20,12 +21,14 @@ ghost use lib.Dec.{eqb};
 ghost use lib.ListN.{getD, replicate};
 ghost use Rattle.lists.specs.Lists.{all, allFrom, count, isEmpty, keep, pairs, same};
 ghost use Rattle.names.specs.Names.{validStreamName};
-ghost use Rattle.stored_names.specs.StoredNames.{units, wellStored};
-ghost use Rattle.records.specs.Sizes.{streamNameLimit};
-ghost use Rattle.records.specs.Slots.{isUsed, isDirectory, fileUsed, streamUsed};
+ghost use Rattle.stored_names.specs.StoredNames.{units};
+ghost use Rattle.records.specs.Sizes.{fileSlots, streamNameLimit};
+ghost use Rattle.records.specs.Slots.{isDirectory, fileUsed};
 ghost use Rattle.records.specs.Namespace.{bare, bareUsed, namespace};
 ghost use Rattle.consistency.specs.Relations.{streamOf, unnamedOf};
-ghost use Rattle.consistency.specs.Test.{sameBool, freeStream, streamTest, streamNamesDiffer, streamsOfFile, streamsTest};
+ghost use Rattle.consistency.specs.Slots.{slotTest};
+ghost use Rattle.consistency.specs.Good.{goodStream, isZeroStream, streamNamesDiffer};
+ghost use Rattle.consistency.specs.Test.{goodStreamOf, streamsOfFile, streamsTest};
 
 // Of each file, how many streams it has and how many of them have the empty name.
 struct FileStreams {
@@ -34,7 +37,7 @@ struct FileStreams {
 }
 
 // The name of a stream is the empty one.
-fn is_unnamed(name: [u16; 32]) -> bool
+fn is_unnamed(name: [u16; STREAM_NAME_LIMIT]) -> bool
     ensures { λ r. ⌜ r ≡ isEmpty (units name) ⌝ }
 {
     let first = name[0];
@@ -42,66 +45,54 @@ fn is_unnamed(name: [u16; 32]) -> bool
 }
 
 // The name is all zero.
-fn zero_name(name: [u16; 32]) -> bool
+fn zero_name(name: [u16; STREAM_NAME_LIMIT]) -> bool
     ensures { λ r. ⌜ r ≡ same name (replicate streamNameLimit 0) ⌝ }
 {
     name[0] == 0 && well_stored(name)
 }
 
 // The name is a valid one.
-fn valid_stored_stream_name(name: [u16; 32]) -> bool
+fn valid_stored_stream_name(name: [u16; STREAM_NAME_LIMIT]) -> bool
     ensures { λ r. ⌜ r ≡ validStreamName streamNameLimit (units name) ⌝ }
 {
     let n = name_length(name);
     valid_stream_name(&name[..n])
 }
 
-// A free slot is all zero.
-fn free_stream(s: Stream) -> bool
-    ensures { λ r. ⌜ r ≡ freeStream (bare s) ⌝ }
+// What a free slot has beside its kind is zero.
+fn is_zero_stream(s: Stream) -> bool
+    ensures { λ r. ⌜ r ≡ isZeroStream (bare s) ⌝ }
 {
     let name = s.name;
     (s.file.0 == 0) & zero_name(name)
 }
 
-// Two types are both a directory's or neither is.
-fn same_kind(t: FileType, u: FileType) -> bool
-    ensures { λ r. ⌜ r ≡ sameBool (isDirectory t) (isDirectory u) ⌝ }
-{
-    if is_directory(t) {
-        is_directory(u)
-    } else {
-        !is_directory(u)
-    }
-}
-
 // A used one has a valid name and is of a used file, whose type is given, and of that type.
-fn used_stream(s: Stream, of: FileType) -> bool
-    ensures { λ r. ⌜ r ≡ (wellStored streamNameLimit (s .name) && validStreamName streamNameLimit (units (s .name))
-        && isUsed of && sameBool (isDirectory (s .«stream_type»)) (isDirectory of)) ⌝ }
+fn good_stream(s: Stream, of: FileType) -> bool
+    ensures { λ r. ⌜ r ≡ goodStream of (bare s) ⌝ }
 {
     let name = s.name;
     let t = s.stream_type;
-    well_stored(name) & valid_stored_stream_name(name) & is_used(of) & same_kind(t, of)
+    well_stored(name)
+        & valid_stored_stream_name(name)
+        & is_used(of)
+        & (is_directory(t) == is_directory(of))
 }
 
 // A stream by itself, with the type of its file.
 fn slot_consistent(s: Stream, of: FileType) -> bool
-    ensures { λ r. ⌜ r ≡ cond (streamUsed s)
-        (wellStored streamNameLimit (s .name) && validStreamName streamNameLimit (units (s .name))
-        && isUsed of && sameBool (isDirectory (s .«stream_type»)) (isDirectory of))
-        (freeStream (bare s)) ⌝ }
+    ensures { λ r. ⌜ r ≡ slotTest bareUsed (goodStream of) isZeroStream (bare s) ⌝ }
 {
     if stream_used(s) {
-        used_stream(s, of)
+        good_stream(s, of)
     } else {
-        free_stream(s)
+        is_zero_stream(s)
     }
 }
 
 // A slot whose file is no slot of the files table is neither free nor consistent.
 fn slots_consistent(v: Volume) -> bool
-    ensures { λ r. ⌜ r ≡ all (streamTest (v .files)) (namespace v .streams) ⌝ }
+    ensures { λ r. ⌜ r ≡ all (slotTest bareUsed (goodStreamOf (v .files)) isZeroStream) (namespace v .streams) ⌝ }
 {
     let mut i: usize = 0;
     while i < STREAM_SLOTS {
@@ -164,7 +155,7 @@ fn one_if_unnamed(s: Stream) -> u16
 
 // The streams of every file, counted in one pass.
 fn streams_of_files(v: Volume) -> FileStreams
-    ensures { λ r. ⌜ ((n : ℕ) → n < 128
+    ensures { λ r. ⌜ ((n : ℕ) → n < fileSlots
         → (getD (r .all) n 0 ≡ count (streamOf (record { 0 = n })) (keep bareUsed (namespace v .streams)))
         × (getD (r .unnamed) n 0 ≡ count (unnamedOf (record { 0 = n })) (keep bareUsed (namespace v .streams)))) ⌝ }
 {

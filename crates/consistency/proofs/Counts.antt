@@ -44,22 +44,17 @@ same-counts-of c d e =
       λ i. e i .«shared_delete»,
     )
 
-abbrev slotTest : List Open → ℕ → Stream → Bool
-slotTest os n s = sameCounts (s .counts) (countsOf (record { 0 = n }) (live os))
+abbrev countsAt : List Open → ℕ → Stream → Bool
+countsAt os n s = sameCounts (s .counts) (countsOf (record { 0 = n }) (live os))
 
-module _ (ss : List Stream) (os : List Open) where
-  pub counts-sound : countsTest ss os ≡ true → CountsTrue ss os
-  unfolding countsTest streamAt
-  counts-sound h s b =
-      same-counts (streamAt ss s .counts) (countsOf s (live os)) (numbered-at (slotTest os) zeroStream ss h (s .0) b)
-
-  pub counts-complete : CountsTrue ss os → countsTest ss os ≡ true
-  unfolding countsTest streamAt
-  counts-complete c =
-      numbered-of (slotTest os) zeroStream ss
+pub counts-iff : (ss : List Stream) (os : List Open) → (countsTest ss os ≡ true) ↔ CountsTrue ss os
+unfolding countsTest streamAt
+counts-iff ss os = (
+  λ h s b.
+      same-counts (streamAt ss s .counts) (countsOf s (live os)) (numbered-at (countsAt os) zeroStream ss h (s .0) b),
+  λ c.
+      numbered-of (countsAt os) zeroStream ss
       (λ i b.
       let s : StreamNo = record { 0 = i } in
-      same-counts-of (streamAt ss s .counts) (countsOf s (live os)) (c s b))
-
-  pub counts-iff : (countsTest ss os ≡ true) ↔ CountsTrue ss os
-  counts-iff = (counts-sound, counts-complete)
+      same-counts-of (streamAt ss s .counts) (countsOf s (live os)) (c s b)),
+)

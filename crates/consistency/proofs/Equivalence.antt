@@ -8,34 +8,26 @@ use Rattle.records.specs.declared.OpenTable.{OpenTable}
 use Rattle.records.specs.declared.Volume.{Volume}
 use Rattle.consistency.specs.Test.{consistent}
 use Rattle.consistency.specs.Consistent.{Consistent}
-use Rattle.consistency.proofs.Files.{files-sound, files-complete}
-use Rattle.consistency.proofs.Links.{links-sound, links-complete}
-use Rattle.consistency.proofs.Streams.{streams-sound, streams-complete}
-use Rattle.consistency.proofs.Opens.{opens-sound, opens-complete}
-use Rattle.consistency.proofs.Counts.{counts-sound, counts-complete}
-
-pub consistent-sound : (v : Volume) (t : OpenTable) → consistent v t ≡ true → Consistent v t
-unfolding consistent
-consistent-sound v t h =
-    let p = simp (consistent, and-iff) at h in
-    let f = files-sound (v .files) (p .0 .0 .0 .0) in
-    record {
-      files = f;
-      links = links-sound (v .files) f (v .links) (p .0 .0 .0 .1);
-      streams = streams-sound (v .files) (namespace v .streams) (p .0 .0 .1);
-      opens = opens-sound (namespace v .streams) (v .«next_handle» .0) (t .rows) (p .0 .1);
-      counts = counts-sound (v .streams) (t .rows) (p .1);
-    }
-
-pub consistent-complete : (v : Volume) (t : OpenTable) → Consistent v t → consistent v t ≡ true
-unfolding consistent
-consistent-complete v t c =
-    let f = files-complete (v .files) (c .files) in
-    let l = links-complete (v .files) (c .files) (v .links) (c .links) in
-    let s = streams-complete (v .files) (namespace v .streams) (c .streams) in
-    let o = opens-complete (namespace v .streams) (v .«next_handle» .0) (t .rows) (c .opens) in
-    let n = counts-complete (v .streams) (t .rows) (c .counts) in
-    simp (consistent, and-iff) ((((f, l), s), o), n)
+use Rattle.consistency.proofs.Files.{files-iff}
+use Rattle.consistency.proofs.Links.{links-iff}
+use Rattle.consistency.proofs.Streams.{streams-iff}
+use Rattle.consistency.proofs.Opens.{opens-iff, conflicts-iff}
+use Rattle.consistency.proofs.Counts.{counts-iff}
 
 pub consistent-iff : (v : Volume) (t : OpenTable) → (consistent v t ≡ true) ↔ Consistent v t
-consistent-iff v t = (consistent-sound v t, consistent-complete v t)
+unfolding consistent
+consistent-iff v t = (
+  λ h.
+      let p = simp (consistent, and-iff, files-iff, streams-iff, opens-iff, counts-iff, conflicts-iff) at h in
+      record {
+        files = p .0 .0 .0 .0 .0;
+        links = links-iff (v .files) (p .0 .0 .0 .0 .0) (v .links) .0 (p .0 .0 .0 .0 .1);
+        streams = p .0 .0 .0 .1;
+        opens = p .0 .0 .1;
+        counts = p .0 .1;
+        conflicts = p .1;
+      },
+  λ c.
+      simp (consistent, and-iff, files-iff, streams-iff, opens-iff, counts-iff, conflicts-iff)
+      (((((c .files, links-iff (v .files) (c .files) (v .links) .1 (c .links)), c .streams), c .opens), c .counts), c .conflicts),
+)

@@ -1,5 +1,6 @@
 pub mod Slots
 pub mod Numbered
+pub mod Relations
 pub mod Files
 pub mod Parents
 pub mod Links

@@ -11,7 +11,7 @@ use lib.Dec.{eqb}
 use lib.ListN.{length, getD}
 use borrow.Author.Tests.{eqb-true, eqb-false, eq-eqb}
 use Rattle.lists.specs.Lists.{count, keep}
-use Rattle.lists.proofs.Tests.{and-left, not-both, or-cases, or-left, or-right}
+use Rattle.lists.proofs.Tests.{not-both, or-cases, or-left, or-right}
 use Rattle.lists.proofs.Keep.{keep-yes, keep-no, count-keep, count-yes, count-no}
 use Rattle.lists.proofs.Pigeonhole.{pigeonhole, least}
 use Rattle.records.specs.Slots.{root, zeroLink, fileUsed, linkUsed}
@@ -20,16 +20,11 @@ use Rattle.records.specs.declared.FileNo.{FileNo}
 use Rattle.records.specs.declared.File.{File}
 use Rattle.records.specs.declared.Link.{Link}
 use Rattle.consistency.specs.Relations.{linkTo, parentOf, climb, reaches}
-use Rattle.consistency.proofs.Slots.{same-file}
-use Rattle.consistency.proofs.Numbered.{file-in}
-
--- only a used link names a file
-pub link-to-used : (f : FileNo) (l : Link) → linkTo f l ≡ true → linkUsed l ≡ true
-unfolding linkTo
-link-to-used f l h = and-left (linkUsed l) (eqb (l .file .0) (f .0)) h
+use Rattle.consistency.proofs.Relations.{link-to-iff}
+use Rattle.consistency.proofs.Numbered.{same-file, file-in}
 
 pub links-kept : (f : FileNo) (ls : List Link) → count (linkTo f) (keep linkUsed ls) ≡ count (linkTo f) ls
-links-kept f ls = count-keep linkUsed (linkTo f) (link-to-used f) ls
+links-kept f ls = count-keep linkUsed (linkTo f) (λ l h. link-to-iff f l .0 h .0) ls
 
 -- the parent by the first link, or by a later one
 module _ (f : FileNo) (l : Link) (ls : List Link) where
@@ -52,7 +47,7 @@ parent-kept (l ∷ ls) f = go (linkUsed l) (linkTo f l) refl refl (parent-kept l
     go true true u e h = rw (keep-yes linkUsed l ls u) (parent-here f l (keep linkUsed ls) e ∙ sym (parent-here f l ls e))
     go true false u e h =
         rw (keep-yes linkUsed l ls u) (parent-next f l (keep linkUsed ls) e ∙ h ∙ sym (parent-next f l ls e))
-    go false true u e h = absurd (not-both (link-to-used f l e) u)
+    go false true u e h = absurd (not-both (link-to-iff f l .0 e .0) u)
     go false false u e h = rw (keep-no linkUsed l ls u) (h ∙ sym (parent-next f l ls e))
 
 -- a file with a link has the parent of one of its links
@@ -134,7 +129,7 @@ module _ (fs : List File) (ls : List Link)
   parent-used f n u =
       let q = parent-link ls f (omega (arith, linked f n u)) in
       ap (λ (g : FileNo). fileUsed (fileAt fs g)) (q .2)
-      ∙ parents (q .0) (link-to-used f (getD ls (q .0) zeroLink) (q .1))
+      ∙ parents (q .0) (link-to-iff f _ .0 (q .1) .0)
 
   -- every file before the root is used
   climb-used : (i : ℕ) (f : FileNo) → fileUsed (fileAt fs f) ≡ true → ((k : ℕ) → k < i → climb ls k f ≢ root)

@@ -1,103 +1,106 @@
--- A table's slots: used ones pass one test and free ones another, and past the end stands a free one. And equations
--- between numbers that are types of their own.
+-- The laws of a table's slots: a test decides them; when one is set, and when other things are asked of a used one, they
+-- stay as they should be.
 use Prim.Native.Nat.{ℕ, _≤_, _<_}
 use mathlib.Core.Path.{_≡_, refl, sym, _∙_, ap}
-use mathlib.Core.Bool.{Bool, true, false, cond, not, _||_, false≢true, true≢false}
+use mathlib.Core.Bool.{Bool, true, false, cond}
 use mathlib.Core.List.{List}
-use mathlib.Core.Logic.{_↔_}
+use mathlib.Core.Logic.{_↔_, _⊎_, inl, inr, ⊎-elim}
 use native.Mathlib.Decide.{decLt}
 use native.Mathlib.Omega.{arith}
-use lib.ListN.{length, getD, List·getD-eq-default}
-use borrow.Author.Tests.{not-true}
-use Rattle.lists.specs.Lists.{all}
+use lib.ListN.{length, getD, set, length-set, List·getD-eq-default}
+use Rattle.lists.specs.Lists.{all, keep, pairs}
 use Rattle.lists.proofs.All.{all-of, all-slots}
-use Rattle.lists.proofs.Tests.{cond-true, cond-false, not-both, guarded, guard}
-use Rattle.records.specs.Slots.{isUsed, isDirectory}
-use Rattle.records.specs.declared.FileType.{FileType}
-use Rattle.records.specs.declared.FileType.the-variants.{Unused, Data, Directory}
-use Rattle.records.specs.declared.FileNo.{FileNo}
-use Rattle.records.specs.declared.StreamNo.{StreamNo}
-use Rattle.records.specs.declared.Handle.{Handle}
-use Rattle.consistency.specs.Test.{sameBool}
+use Rattle.lists.proofs.Pairs.{pairs-keep-at, pairs-keep-of}
+use Rattle.lists.proofs.PairsPerm.{set-each, set-pairs}
+use Rattle.lists.proofs.Tests.{tested, cond-true, cond-false, not-both, and-iff, eqb-iff}
+use Rattle.consistency.specs.Slots.{Slots, EveryTwo, slotTest, slotsTest}
 
--- numbers of a type of their own are equal where the numbers are
-pub same-file : (f g : FileNo) → f .0 ≡ g .0 → f ≡ g
-same-file f g e = λ i. record { 0 = e i }
+-- what tests decide of a table's records: that a used one is good, and that a free one is all zero
+pub record Decides {A : Type 0} (used good isZero : A → Bool) (zero : A) (Good : A → Type 0) : Type 0 where
+  pub zeroFree : used zero ≡ false
+  pub decidesGood : (x : A) → used x ≡ true → (good x ≡ true) ↔ Good x
+  pub decidesZero : (x : A) → used x ≡ false → (isZero x ≡ true) ↔ (x ≡ zero)
 
-pub same-stream : (s t : StreamNo) → s .0 ≡ t .0 → s ≡ t
-same-stream s t e = λ i. record { 0 = e i }
+-- a used slot is below the length
+pub used-below : {A : Type 0} (used : A → Bool) (zero : A) → used zero ≡ false
+    → (xs : List A) (i : ℕ) → used (getD xs i zero) ≡ true → i < length xs
+used-below used zero free xs i u =
+    elim (decLt i (length xs)) [
+      | yes b ↦ b
+      | no n ↦ absurd (not-both u (ap used (List·getD-eq-default xs zero {n = i} (past n)) ∙ free))
+    ]
+  where
+    past : (i < length xs → ⊥) → length xs ≤ i
+    past n = omega arith
 
-pub same-handle : (h k : Handle) → h .0 ≡ k .0 → h ≡ k
-same-handle h k e = λ i. record { 0 = e i }
+module _ {A : Type 0} {used good isZero : A → Bool} {zero : A} {Good : A → Type 0} (d : Decides used good isZero zero Good) where
+  -- a slot that passes: a good one, or all zero
+  pub slot-good : (x : A) → used x ≡ true → slotTest used good isZero x ≡ true → Good x
+  slot-good x u h = d .decidesGood x u .0 (sym (cond-true (good x) (isZero x) u) ∙ h)
 
--- a type that is not used is Unused
-pub unused : (t : FileType) → isUsed t ≡ false → t ≡ Unused
-unfolding isUsed
-unused Unused h = refl
-unused Data h = absurd (true≢false h)
-unused Directory h = absurd (true≢false h)
+  slot-zero : (x : A) → used x ≡ false → slotTest used good isZero x ≡ true → x ≡ zero
+  slot-zero x u h = d .decidesZero x u .0 (sym (cond-false (good x) (isZero x) u) ∙ h)
 
-pub directory-used : (t : FileType) → isDirectory t ≡ true → isUsed t ≡ true
-unfolding isUsed isDirectory
-directory-used Unused h = h
-directory-used Data h = refl
-directory-used Directory h = refl
+  pub slot-passes : (x : A) → slotTest used good isZero x ≡ true → Good x ⊎ (x ≡ zero)
+  slot-passes x h = ⊎-elim (λ u. inl (slot-good x u h)) (λ u. inr (slot-zero x u h)) (tested (used x))
 
--- two types that are used are equal where both or neither is a directory
-pub same-type : (t u : FileType) → isUsed t ≡ true → isUsed u ≡ true → isDirectory t ≡ isDirectory u → t ≡ u
-unfolding isUsed isDirectory
-same-type Unused u h k e = absurd (false≢true h)
-same-type Data Unused h k e = absurd (false≢true k)
-same-type Data Data h k e = refl
-same-type Data Directory h k e = absurd (false≢true e)
-same-type Directory Unused h k e = absurd (false≢true k)
-same-type Directory Data h k e = absurd (true≢false e)
-same-type Directory Directory h k e = refl
+  slot-of : (x : A) → (used x ≡ true → Good x) → (used x ≡ false → x ≡ zero) → slotTest used good isZero x ≡ true
+  slot-of x g z =
+      ⊎-elim (λ u. cond-true (good x) (isZero x) u ∙ d .decidesGood x u .1 (g u))
+      (λ u. cond-false (good x) (isZero x) u ∙ d .decidesZero x u .1 (z u))
+      (tested (used x))
 
--- two tests that agree
-pub same-bool-iff : (a b : Bool) → (sameBool a b ≡ true) ↔ (a ≡ b)
-unfolding sameBool
-same-bool-iff true b = (sym, sym)
-same-bool-iff false b = (λ h. sym (not-true b h), λ e. ap not (sym e))
+  pub slots-iff : (n : ℕ) (xs : List A) → (slotsTest used good isZero n xs ≡ true) ↔ Slots used zero Good n xs
+  unfolding slotsTest
+  slots-iff n xs = (
+    λ h.
+        let p = simp (slotsTest, and-iff, eqb-iff) at h in
+        let at = all-slots (slotTest used good isZero) zero (slot-of zero (λ u. absurd (not-both u (d .zeroFree))) (λ u. refl)) xs (p .1) in
+        record {
+          size = p .0;
+          freeZero = λ i u. slot-zero (getD xs i zero) u (at i);
+          usedGood = λ i u. slot-good (getD xs i zero) u (at i);
+        },
+    λ s.
+        simp (slotsTest, and-iff, eqb-iff)
+        (s .size, all-of (slotTest used good isZero) zero xs (λ i b. slot-of (getD xs i zero) (s .usedGood i) (s .freeZero i))),
+  )
 
--- a test that counts only where another passes
-pub guard-iff : (a b : Bool) → ((not a || b) ≡ true) ↔ (a ≡ true → b ≡ true)
-guard-iff a b = (guarded a b, guard a b)
+module _ {A : Type 0} {used : A → Bool} {zero : A} {Good Good′ : A → Type 0} {n : ℕ} {xs : List A} where
+  -- used slots are as good by another measure
+  pub slots-good : ((x : A) → used x ≡ true → Good x → Good′ x) → Slots used zero Good n xs → Slots used zero Good′ n xs
+  slots-good g s =
+      record { size = s .size; freeZero = s .freeZero; usedGood = λ i u. g (getD xs i zero) u (s .usedGood i u) }
 
--- one test of two, by a third
-module _ (u a b : Bool) where
-  pub cond-of : (u ≡ true → a ≡ true) → (u ≡ false → b ≡ true) → cond u a b ≡ true
-  cond-of = go u
-    where
-      go : (c : Bool) → (c ≡ true → a ≡ true) → (c ≡ false → b ≡ true) → cond c a b ≡ true
-      go true f g = f refl
-      go false f g = g refl
+module _ {A : Type 0} {used : A → Bool} {zero : A} {Good : A → Type 0} {n : ℕ} {xs : List A} (s : Slots used zero Good n xs) where
+  -- one slot takes a record that is good, or all zero
+  pub slots-set : (i : ℕ) (y : A) → (used y ≡ true → Good y) → (used y ≡ false → y ≡ zero) → Slots used zero Good n (set xs i y)
+  slots-set i y g z =
+      record {
+        size = length-set xs i y ∙ s .size;
+        freeZero = set-each zero (λ x. used x ≡ false → x ≡ zero) xs i y z (s .freeZero);
+        usedGood = set-each zero (λ x. used x ≡ true → Good x) xs i y g (s .usedGood);
+      }
 
--- a table whose default is free: what its test says of every number
-module _ {A : Type 0} (used : A → Bool) (d : A) (df : used d ≡ false) where
-  -- a used slot is below the length
-  pub used-below : (xs : List A) (i : ℕ) → used (getD xs i d) ≡ true → i < length xs
-  used-below xs i u = elim (decLt i (length xs)) [ yes b ↦ b | no n ↦ absurd (not-both u (ap used (List·getD-eq-default xs d {n = i} (past n)) ∙ df)) ]
-    where
-      past : (i < length xs → ⊥) → length xs ≤ i
-      past n = omega arith
+  -- a used slot is below the table's size
+  pub slots-below : used zero ≡ false → (i : ℕ) → used (getD xs i zero) ≡ true → i < n
+  slots-below free i u = omega (arith, used-below used zero free xs i u, s .size)
 
-  module _ (good free : A → Bool) (dz : free d ≡ true) (xs : List A) where
-    slot : all (λ x. cond (used x) (good x) (free x)) xs ≡ true → (i : ℕ)
-        → cond (used (getD xs i d)) (good (getD xs i d)) (free (getD xs i d)) ≡ true
-    slot h i = all-slots (λ x. cond (used x) (good x) (free x)) d (cond-false (good d) (free d) df ∙ dz) xs h i
+-- every two used slots, by a test
+module _ {A : Type 0} (used : A → Bool) (zero : A) (free : used zero ≡ false) (r : A → A → Bool) (R : A → A → Type 0)
+    (decides : (x y : A) → (r x y ≡ true) ↔ R x y) (xs : List A)
+  where
+    pub two-iff : (pairs r (keep used xs) ≡ true) ↔ EveryTwo used zero R xs
+    two-iff = (
+      λ h i j b u w.
+          decides (getD xs i zero) (getD xs j zero) .0
+          (pairs-keep-at used r zero xs h i j b (used-below used zero free xs j w) u w),
+      λ t. pairs-keep-of used r zero xs (λ i j b l u w. decides (getD xs i zero) (getD xs j zero) .1 (t i j b u w)),
+    )
 
-    pub slot-used : all (λ x. cond (used x) (good x) (free x)) xs ≡ true → (i : ℕ)
-        → used (getD xs i d) ≡ true → good (getD xs i d) ≡ true
-    slot-used h i u = sym (cond-true (good (getD xs i d)) (free (getD xs i d)) u) ∙ slot h i
-
-    pub slot-free : all (λ x. cond (used x) (good x) (free x)) xs ≡ true → (i : ℕ)
-        → used (getD xs i d) ≡ false → free (getD xs i d) ≡ true
-    slot-free h i u = sym (cond-false (good (getD xs i d)) (free (getD xs i d)) u) ∙ slot h i
-
-    pub slots-of : ((i : ℕ) → used (getD xs i d) ≡ true → good (getD xs i d) ≡ true)
-        → ((i : ℕ) → used (getD xs i d) ≡ false → free (getD xs i d) ≡ true)
-        → all (λ x. cond (used x) (good x) (free x)) xs ≡ true
-    slots-of g f =
-        all-of (λ x. cond (used x) (good x) (free x)) d xs
-        (λ i b. cond-of (used (getD xs i d)) (good (getD xs i d)) (free (getD xs i d)) (g i) (f i))
+-- one slot takes a record that stands so to every used one
+module _ {A : Type 0} (used : A → Bool) (zero : A) (R : A → A → Type 0) (turn : (x y : A) → R x y → R y x) (xs : List A) where
+  pub two-set : EveryTwo used zero R xs → (i : ℕ) (y : A)
+      → ((j : ℕ) → used y ≡ true → used (getD xs j zero) ≡ true → R y (getD xs j zero)) → EveryTwo used zero R (set xs i y)
+  two-set t i y new =
+      set-pairs zero (λ a b. used a ≡ true → used b ≡ true → R a b) (λ a b h u w. turn a b (h w u)) xs i y new t

@@ -1,4 +1,6 @@
 pub mod Relations
-pub mod Test
+pub mod Slots
+pub mod Good
 pub mod Consistent
+pub mod Test
 pub mod Evaluate

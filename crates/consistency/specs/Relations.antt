@@ -9,11 +9,18 @@ use Rattle.lists.specs.Lists.{all, keep, isEmpty}
 use Rattle.records.specs.Sizes.{accounts}
 use Rattle.records.specs.Constants.{allAccess}
 use Rattle.records.specs.Slots.{linkUsed, openUsed}
+use Rattle.tables.specs.Tables.{fileAt}
 use Rattle.records.specs.Namespace.{BareStream, bareUsed}
+use Rattle.records.specs.declared.FileType.{FileType}
 use Rattle.records.specs.declared.FileNo.{FileNo}
+use Rattle.records.specs.declared.File.{File}
 use Rattle.records.specs.declared.Link.{Link}
 use Rattle.records.specs.declared.Open.{Open}
 use Rattle.stored_names.specs.StoredNames.{units}
+
+-- the type of the file at a number
+abbrev pub typeAt : List File → FileNo → FileType
+typeAt fs f = fileAt fs f .«file_type»
 
 -- a mask for each account, each within 0x1F01FF
 unfoldable pub validMasks : List ℕ → Bool

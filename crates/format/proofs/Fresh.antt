@@ -13,14 +13,16 @@ use Rattle.names.specs.Names.{validUnit, validFileName, validStreamName}
 use Rattle.stored_names.specs.StoredNames.{units, wellStored}
 use Rattle.sharing.specs.Sharing.{onStream, countsOf, countsOfAll}
 use Rattle.consistency.specs.Relations.{validMasks, linkTo, streamOf, unnamedOf, live, parentOf, reaches}
-use Rattle.consistency.specs.Test.{freeFile, sameBool, usedFile, filesTest, freeLink, usedLink, linkNamesDiffer, linksOfFile, linksTest, freeStream, usedStream, streamNamesDiffer, streamsOfFile, streamsTest, freeOpen, usedOpen, handlesDiffer, opensAgree, opensTest, sameCounts, countsTest, consistent}
+use Rattle.consistency.specs.Slots.{slotsTest}
+use Rattle.consistency.specs.Good.{goodFile, isZeroFile, goodLink, isZeroLink, goodStream, isZeroStream, goodOpen, isZeroOpen, linkNamesDiffer, streamNamesDiffer, handlesDiffer, opensAgree}
+use Rattle.consistency.specs.Test.{filesTest, linksOfFile, linksTest, streamsOfFile, streamsTest, opensTest, sameCounts, countsTest, conflictsTest, consistent}
 use Rattle.consistency.specs.Consistent.{Consistent}
-use Rattle.consistency.proofs.Equivalence.{consistent-sound}
+use Rattle.consistency.proofs.Equivalence.{consistent-iff}
 use Rattle.format.specs.Format.{rootFile, freshVolume, freshOpens}
 
 -- what the tests compute with
 tests : Unit {0}
-unfolding within has all allFrom count keep pairs isEmpty same padded isUsed isDirectory fileUsed linkUsed openUsed fileAt bareAt bare bareUsed namespace units wellStored validStreamName validFileName validUnit countsOf countsOfAll onStream linkTo streamOf unnamedOf live parentOf reaches freeFile sameBool usedFile filesTest freeLink usedLink linkNamesDiffer linksOfFile linksTest freeStream usedStream streamNamesDiffer streamsOfFile streamsTest freeOpen usedOpen handlesDiffer opensAgree opensTest sameCounts countsTest rootFile freshVolume
+unfolding within has all allFrom count keep pairs isEmpty same padded isUsed isDirectory fileUsed linkUsed openUsed fileAt bareAt bare bareUsed namespace units wellStored validStreamName validFileName validUnit countsOf countsOfAll onStream linkTo streamOf unnamedOf live parentOf reaches slotsTest goodFile isZeroFile goodLink isZeroLink goodStream isZeroStream goodOpen isZeroOpen filesTest linkNamesDiffer linksOfFile linksTest streamNamesDiffer streamsOfFile streamsTest handlesDiffer opensTest sameCounts countsTest opensAgree conflictsTest rootFile freshVolume
 tests = tt
 
 -- each table's test is computed, but for the root's masks
@@ -45,8 +47,12 @@ module _ (masks : List ℕ) (readOnly : Bool) (valid : validMasks masks ≡ true
   unfolding tests
   counts-fresh = refl
 
+  conflicts-fresh : conflictsTest (freshOpens .rows) ≡ true
+  unfolding tests
+  conflicts-fresh = refl
+
   pub fresh-consistent : Consistent (freshVolume masks readOnly) freshOpens
   unfolding consistent
   fresh-consistent =
-      consistent-sound (freshVolume masks readOnly) freshOpens
-      (and-both (and-both (and-both (and-both files-fresh links-fresh) streams-fresh) opens-fresh) counts-fresh)
+      consistent-iff (freshVolume masks readOnly) freshOpens .0
+      (and-both (and-both (and-both (and-both (and-both files-fresh links-fresh) streams-fresh) opens-fresh) counts-fresh) conflicts-fresh)

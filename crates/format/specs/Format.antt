@@ -1,9 +1,9 @@
 -- Format: eight masks and a read-only mark make fresh tables. It needs right lengths, tested before the masks.
 use Prim.Native.Nat.{ℕ}
 use mathlib.Core.Bool.{Bool, true, false, not, _&&_}
-use mathlib.Core.List.{List, [], _∷_}
+use mathlib.Core.List.{List}
 use lib.Dec.{eqb}
-use lib.ListN.{length, replicate}
+use lib.ListN.{length, replicate, set}
 use Rattle.lists.specs.Lists.{all}
 use Rattle.records.specs.Sizes.{fileSlots, linkSlots, streamSlots, openSlots, fileNameLimit, streamNameLimit, accounts}
 use Rattle.records.specs.Constants.{directory}
@@ -42,9 +42,9 @@ freshVolume masks readOnly =
     record {
       «read_only» = readOnly;
       «next_handle» = record { 0 = 1 };
-      files = rootFile masks ∷ replicate 127 zeroFile;
+      files = set (replicate fileSlots zeroFile) 0 (rootFile masks);
       links = replicate linkSlots zeroLink;
-      streams = rootStream ∷ replicate 255 zeroStream;
+      streams = set (replicate streamSlots zeroStream) 0 rootStream;
     }
 
 abbrev pub freshOpens : OpenTable

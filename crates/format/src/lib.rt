@@ -11,6 +11,12 @@ use records::Status;
 use records::Stream;
 use records::Volume;
 use records::constants::DIRECTORY;
+use records::sizes::ACCOUNTS;
+use records::sizes::FILE_SLOTS;
+use records::sizes::LINK_SLOTS;
+use records::sizes::OPEN_SLOTS;
+use records::sizes::STREAM_NAME_LIMIT;
+use records::sizes::STREAM_SLOTS;
 use records::slots::ZERO_COUNTS;
 use records::slots::ZERO_FILE;
 use records::slots::ZERO_LINK;
@@ -21,7 +27,7 @@ ghost use Rattle.records.specs.State.{Answers};
 ghost use Rattle.format.specs.Format as definitions;
 
 // File 0.
-fn root_file(masks: [u32; 8]) -> File
+fn root_file(masks: [u32; ACCOUNTS]) -> File
     ensures { λ r. ⌜ r ≡ definitions.rootFile masks ⌝ }
 {
     File {
@@ -38,18 +44,18 @@ fn root_stream() -> Stream
     Stream {
         file: FileNo(0),
         stream_type: FileType::Directory,
-        name: [0; 32],
+        name: [0; STREAM_NAME_LIMIT],
         counts: ZERO_COUNTS,
     }
 }
 
-fn fresh_volume(masks: [u32; 8], read_only: bool) -> Volume
+fn fresh_volume(masks: [u32; ACCOUNTS], read_only: bool) -> Volume
     ensures { λ r. ⌜ r ≡ definitions.freshVolume masks «read_only» ⌝ }
 {
-    let mut files = [ZERO_FILE; 128];
+    let mut files = [ZERO_FILE; FILE_SLOTS];
     files[0] = root_file(masks);
-    let links = [ZERO_LINK; 192];
-    let mut streams = [ZERO_STREAM; 256];
+    let links = [ZERO_LINK; LINK_SLOTS];
+    let mut streams = [ZERO_STREAM; STREAM_SLOTS];
     streams[0] = root_stream();
     Volume {
         read_only,
@@ -63,12 +69,12 @@ fn fresh_volume(masks: [u32; 8], read_only: bool) -> Volume
 fn fresh_opens() -> OpenTable
     ensures { λ r. ⌜ r ≡ definitions.freshOpens ⌝ }
 {
-    let rows = [ZERO_OPEN; 256];
+    let rows = [ZERO_OPEN; OPEN_SLOTS];
     OpenTable { rows }
 }
 
 // Tables by value have the right lengths, so only the masks decide.
-pub fn format(v: Volume, t: OpenTable, masks: [u32; 8], read_only: bool) -> Answer
+pub fn format(v: Volume, t: OpenTable, masks: [u32; ACCOUNTS], read_only: bool) -> Answer
     ensures { λ r. ⌜ Answers r (definitions.format (record { volume = v; opens = t }) masks «read_only») ⌝ }
 {
     if !valid_masks(masks) {

@@ -21,11 +21,11 @@ unfoldable pub streamSlot : Option ℕ → StreamSlot
 streamSlot none = StreamSlot.Full
 streamSlot (some n) = StreamSlot.At (record { 0 = n })
 
-unfoldable pub freeFile : Volume → FileSlot
-freeFile v = fileSlot (firstFree fileUsed 0 (v .files))
+unfoldable pub freeFileSlot : Volume → FileSlot
+freeFileSlot v = fileSlot (firstFree fileUsed 0 (v .files))
 
-unfoldable pub freeLink : Volume → LinkSlot
-freeLink v = linkSlot (firstFree linkUsed 0 (v .links))
+unfoldable pub freeLinkSlot : Volume → LinkSlot
+freeLinkSlot v = linkSlot (firstFree linkUsed 0 (v .links))
 
-unfoldable pub freeStream : Volume → ℕ → StreamSlot
-freeStream v from = streamSlot (firstFree streamUsed from (v .streams))
+unfoldable pub freeStreamSlot : Volume → ℕ → StreamSlot
+freeStreamSlot v from = streamSlot (firstFree streamUsed from (v .streams))

@@ -10,7 +10,7 @@ use records::slots::file_used;
 use records::slots::link_used;
 use records::slots::stream_used;
 ghost use mathlib.Core.Path.{_≡_};
-ghost use Rattle.free_slots.specs.Free.{freeFile, freeLink, freeStream};
+ghost use Rattle.free_slots.specs.Free.{freeFileSlot, freeLinkSlot, freeStreamSlot};
 
 // What a search for a free slot finds: the lowest one, or that the table is full.
 pub enum FileSlot {
@@ -29,7 +29,7 @@ pub enum StreamSlot {
 }
 
 pub fn free_file(v: Volume) -> FileSlot
-    ensures { λ r. ⌜ r ≡ freeFile v ⌝ }
+    ensures { λ r. ⌜ r ≡ freeFileSlot v ⌝ }
 {
     let mut i: usize = 0;
     while i < FILE_SLOTS {
@@ -44,7 +44,7 @@ pub fn free_file(v: Volume) -> FileSlot
 }
 
 pub fn free_link(v: Volume) -> LinkSlot
-    ensures { λ r. ⌜ r ≡ freeLink v ⌝ }
+    ensures { λ r. ⌜ r ≡ freeLinkSlot v ⌝ }
 {
     let mut i: usize = 0;
     while i < LINK_SLOTS {
@@ -60,7 +60,7 @@ pub fn free_link(v: Volume) -> LinkSlot
 
 // The search starts at a place: an open may add two streams.
 pub fn free_stream(v: Volume, from: usize) -> StreamSlot
-    ensures { λ r. ⌜ r ≡ freeStream v from ⌝ }
+    ensures { λ r. ⌜ r ≡ freeStreamSlot v from ⌝ }
 {
     let mut i = from;
     while i < STREAM_SLOTS {

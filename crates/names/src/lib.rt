@@ -1,4 +1,6 @@
 // Which names are valid (step 4).
+use records::sizes::FILE_NAME_LIMIT;
+use records::sizes::STREAM_NAME_LIMIT;
 ghost use mathlib.Core.Path.{_≡_};
 ghost use mathlib.Core.Bool.{_||_};
 ghost use mathlib.Core.List.{_∷_, []};
@@ -6,11 +8,6 @@ ghost use Rattle.lists.specs.Lists.{same};
 ghost use Rattle.records.specs.Sizes.{fileNameLimit, streamNameLimit};
 ghost use Rattle.units.specs.Units.{dot};
 ghost use Rattle.names.specs.Names.{validUnit, validFileName, validStreamName};
-
-// Units of a file's name, and of a stream's.
-const FILE_NAME_LIMIT: usize = 32;
-
-const STREAM_NAME_LIMIT: usize = 32;
 
 const DOT: u16 = 0x2E;
 

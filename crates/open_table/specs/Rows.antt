@@ -13,16 +13,16 @@ use Rattle.records.specs.declared.OpenTable.{OpenTable}
 use Rattle.open_table.specs.declared.OpenSlot.{OpenSlot}
 
 -- past the table's end stands the record of a free row
-unfoldable pub openAt : OpenTable → ℕ → Open
-openAt t n = getD (t .rows) n zeroOpen
+unfoldable pub rowAt : OpenTable → ℕ → Open
+rowAt t n = getD (t .rows) n zeroOpen
 
 -- the place that a search finds, as the code answers it
 unfoldable pub openSlot : Option ℕ → OpenSlot
 openSlot none = OpenSlot.Full
 openSlot (some n) = OpenSlot.At n
 
-unfoldable pub freeOpen : OpenTable → OpenSlot
-freeOpen t = openSlot (firstFree openUsed 0 (t .rows))
+unfoldable pub freeRow : OpenTable → OpenSlot
+freeRow t = openSlot (firstFree openUsed 0 (t .rows))
 
 -- some open of a list, counted or not, is on the file; some live one of the table
 unfoldable pub anyOnFile : FileNo → List Open → Bool

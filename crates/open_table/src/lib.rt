@@ -6,7 +6,7 @@ use records::sizes::OPEN_SLOTS;
 use records::slots::ZERO_OPEN;
 use records::slots::open_used;
 ghost use mathlib.Core.Path.{_≡_};
-ghost use Rattle.open_table.specs.Rows.{openAt, freeOpen, fileHasOpen};
+ghost use Rattle.open_table.specs.Rows.{rowAt, freeRow, fileHasOpen};
 
 // What a search for a free row finds: the lowest one, or that the table is full. A row has no number of its own kind:
 // handles come from elsewhere.
@@ -16,13 +16,13 @@ pub enum OpenSlot {
 }
 
 pub fn open_at(t: OpenTable, n: usize) -> Open
-    ensures { λ r. ⌜ r ≡ openAt t n ⌝ }
+    ensures { λ r. ⌜ r ≡ rowAt t n ⌝ }
 {
     if n < OPEN_SLOTS { t.rows[n] } else { ZERO_OPEN }
 }
 
 pub fn free_open(t: OpenTable) -> OpenSlot
-    ensures { λ r. ⌜ r ≡ freeOpen t ⌝ }
+    ensures { λ r. ⌜ r ≡ freeRow t ⌝ }
 {
     let mut i: usize = 0;
     while i < OPEN_SLOTS {

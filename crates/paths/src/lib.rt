@@ -6,6 +6,7 @@ use components::part_of;
 use components::units_before;
 use names::valid_file_name;
 use names::valid_stream_name;
+use records::sizes::PATH_LIMIT;
 use units::equal_units;
 ghost use mathlib.Core.Path.{_≡_};
 ghost use mathlib.Core.Bool.{true};
@@ -19,9 +20,6 @@ ghost use Rattle.paths.specs.Positions.{asLeaf, asPath, named, checked};
 const BACKSLASH: u16 = 0x5C;
 
 const COLON: u16 = 0x3A;
-
-// Units of a path.
-const PATH_LIMIT: usize = 255;
 
 // A path's last component: where its file name and its stream name stand, and whether it has a colon.
 pub struct LeafParts {

@@ -52,6 +52,10 @@ temporary = 0x100
 abbrev pub notContentIndexed : ℕ
 notContentIndexed = 0x2000
 
+-- all that a file may have
+abbrev pub fileAttributes : ℕ
+fileAttributes = 0x3137
+
 -- access
 abbrev pub writeData : ℕ
 writeData = 0x2
@@ -81,3 +85,6 @@ maximumAllowed = 0x02000000
 -- sharing modes
 abbrev pub shareRead : ℕ
 shareRead = 1
+
+abbrev pub shareAll : ℕ
+shareAll = 7

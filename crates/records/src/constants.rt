@@ -35,6 +35,9 @@ pub const TEMPORARY: u32 = 0x100;
 
 pub const NOT_CONTENT_INDEXED: u32 = 0x2000;
 
+// all that a file may have
+pub const FILE_ATTRIBUTES: u32 = 0x3137;
+
 // access
 pub const WRITE_DATA: u32 = 0x2;
 
@@ -54,3 +57,5 @@ pub const MAXIMUM_ALLOWED: u32 = 0x0200_0000;
 
 // sharing modes
 pub const SHARE_READ: u32 = 1;
+
+pub const SHARE_ALL: u32 = 7;

@@ -4,6 +4,14 @@ pub mod constants;
 pub mod sizes;
 pub mod slots;
 
+use crate::sizes::ACCOUNTS;
+use crate::sizes::FILE_NAME_LIMIT;
+use crate::sizes::FILE_SLOTS;
+use crate::sizes::LINK_SLOTS;
+use crate::sizes::OPEN_SLOTS;
+use crate::sizes::STREAM_NAME_LIMIT;
+use crate::sizes::STREAM_SLOTS;
+
 // A slot of the files table. File 0 is the root.
 pub struct FileNo(pub u16);
 
@@ -27,13 +35,13 @@ pub enum FileType {
 pub struct File {
     pub file_type: FileType,
     pub attributes: u32,
-    pub masks: [u32; 8],
+    pub masks: [u32; ACCOUNTS],
 }
 
 // A name of a file in its parent directory. Units past the name are zero; a free slot has no name.
 pub struct Link {
     pub parent: FileNo,
-    pub name: [u16; 32],
+    pub name: [u16; FILE_NAME_LIMIT],
     pub file: FileNo,
 }
 
@@ -53,7 +61,7 @@ pub struct ShareCounts {
 pub struct Stream {
     pub file: FileNo,
     pub stream_type: FileType,
-    pub name: [u16; 32],
+    pub name: [u16; STREAM_NAME_LIMIT],
     pub counts: ShareCounts,
 }
 
@@ -70,14 +78,14 @@ pub struct Open {
 pub struct Volume {
     pub read_only: bool,
     pub next_handle: Handle,
-    pub files: [File; 128],
-    pub links: [Link; 192],
-    pub streams: [Stream; 256],
+    pub files: [File; FILE_SLOTS],
+    pub links: [Link; LINK_SLOTS],
+    pub streams: [Stream; STREAM_SLOTS],
 }
 
 // The opens, which stand beside the volume.
 pub struct OpenTable {
-    pub rows: [Open; 256],
+    pub rows: [Open; OPEN_SLOTS],
 }
 
 // What an open asks, besides its path. `fold` says that a to z match A to Z.

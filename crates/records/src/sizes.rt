@@ -12,4 +12,6 @@ pub const FILE_NAME_LIMIT: usize = 32;
 
 pub const STREAM_NAME_LIMIT: usize = 32;
 
+pub const PATH_LIMIT: usize = 255;
+
 pub const ACCOUNTS: usize = 8;

@@ -20,7 +20,7 @@ use Rattle.records.specs.declared.Request.{Request}
 use Rattle.sharing.specs.Sharing.{anyConflict, countsOf, shareCheck}
 use Rattle.consistency.specs.Relations.{live}
 use Rattle.consistency.specs.Consistent.{Consistent}
-use Rattle.consistency.specs.Test.{opensAgree}
+use Rattle.consistency.specs.Good.{opensAgree}
 use Rattle.format.specs.Format.{format}
 use Rattle.store.specs.Prepare.{Existing, existing, prepare}
 use Rattle.store.specs.Store.{storeOpen}

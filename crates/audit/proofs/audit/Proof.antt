@@ -1,4 +1,4 @@
--- `audit::audit` meets its contract: the five tables' tests are the parts of the whole.
+-- `audit::audit` meets its contract: the six tests are the parts of the whole.
 use mathlib.Core.Path.{_≡_, sym, _∙_}
 use mathlib.Core.Bool.{Bool, true, false, not}
 use borrow.Author.Tests.{not-true, not-false}
@@ -69,14 +69,31 @@ counts-true-requires c κs = search needs
 returns-5 : tie.Need-returns-5
 unfolding consistent
 returns-5 c =
+    sym
+    (rw (
+      consistent,
+      passed (c .before .before .before .before .before .before .before .before .before .files-consistent .ensures) (c .before .before .before .before .before .before .before .before .if1 .left),
+      passed (c .before .before .before .before .before .before .before .links-consistent .ensures) (c .before .before .before .before .before .before .if2 .left),
+      passed (c .before .before .before .before .before .streams-consistent .ensures) (c .before .before .before .before .if3 .left),
+      passed (c .before .before .before .opens-consistent .ensures) (c .before .before .if4 .left),
+      failed (c .before .counts-true .ensures) (c .if5 .taken),
+    ))
+
+no-conflicts-requires : tie.Need-no-conflicts-requires
+no-conflicts-requires c κs = search needs
+
+returns-6 : tie.Need-returns-6
+unfolding consistent
+returns-6 c =
     rw (
       consistent,
-      passed (c .before .before .before .before .before .before .before .before .files-consistent .ensures) (c .before .before .before .before .before .before .before .if1 .left),
-      passed (c .before .before .before .before .before .before .links-consistent .ensures) (c .before .before .before .before .before .if2 .left),
-      passed (c .before .before .before .before .streams-consistent .ensures) (c .before .before .before .if3 .left),
-      passed (c .before .before .opens-consistent .ensures) (c .before .if4 .left),
+      passed (c .before .before .before .before .before .before .before .before .before .before .files-consistent .ensures) (c .before .before .before .before .before .before .before .before .before .if1 .left),
+      passed (c .before .before .before .before .before .before .before .before .links-consistent .ensures) (c .before .before .before .before .before .before .before .if2 .left),
+      passed (c .before .before .before .before .before .before .streams-consistent .ensures) (c .before .before .before .before .before .if3 .left),
+      passed (c .before .before .before .before .opens-consistent .ensures) (c .before .before .before .if4 .left),
+      passed (c .before .before .counts-true .ensures) (c .before .if5 .left),
     )
-    (c .counts-true .ensures)
+    (c .no-conflicts .ensures)
 
 pub audit-spec : {M : Type 1} → statement M
 audit-spec =
@@ -91,4 +108,6 @@ audit-spec =
     opens-consistent-requires
     returns-4
     counts-true-requires
-    returns-5)
+    returns-5
+    no-conflicts-requires
+    returns-6)

@@ -7,6 +7,7 @@ use native.Mathlib.Omega.{arith}
 use lib.ListN.{length, length-set}
 use borrow.Author.Needs.{needs}
 use borrow.Author.Tests.{ltb-true, ltb-false}
+use Rattle.records.specs.Sizes.{streamSlots, openSlots}
 use Rattle.records.specs.Slots.{zeroCounts, zeroOpen}
 use Rattle.records.proofs.Lengths.{rows-length}
 use Rattle.audit_counts.proofs.CountsScan.{Counted, none-counted, all-counted, row-adds, row-adds-none}
@@ -15,7 +16,7 @@ use Rattle.audit_counts.proofs.counts_of_streams.Tie as tie
 
 abbrev Inv-loop : tie.InvT-loop
 Inv-loop t counts₀ i₀ counts i =
-    (i ≤ 256) × (length counts ≡ 256) × Counted (t .rows) 256 counts i
+    (i ≤ openSlots) × (length counts ≡ streamSlots) × Counted (t .rows) streamSlots counts i
 
 abbrev μ-loop : tie.MeasureT-loop
 μ-loop t counts₀ i₀ counts i = i
@@ -23,7 +24,7 @@ abbrev μ-loop : tie.MeasureT-loop
 loop-holds : tie.Need-loop-holds Inv-loop μ-loop
 loop-holds c =
     let size = rows-length (c .args .t1) _ (c .good .0) in
-    (search needs, refl, none-counted (c .args .t1 .rows) 256 256 (omega arith))
+    (search needs, refl, none-counted (c .args .t1 .rows) streamSlots openSlots (omega arith))
 
 sub-i : tie.Need-sub-i Inv-loop μ-loop
 sub-i c = search needs
@@ -67,7 +68,7 @@ loop-again c =
     let used = c .before .before .before in (
       omega arith,
       length-set (l .loop .counts) _ _ ∙ l .loop .inv .1,
-      row-adds rows 256 (l .loop .counts) (l .loop .i) zeroOpen (omega arith) (omega arith) (l .loop .inv .2) 65535 (omega arith)
+      row-adds rows streamSlots (l .loop .counts) (l .loop .i) zeroOpen (omega arith) (omega arith) (l .loop .inv .2) 65535 (omega arith)
           (sym (used .before .open-used .ensures) ∙ used .if1 .taken) (l .loop .inv .1)
           (ltb-true _ _ (c .before .before .if2 .taken)) zeroCounts (c .with-open .ensures),
     )
@@ -83,7 +84,7 @@ loop-again-2 c =
     let size = rows-length (a .args .t1) _ (a .good .0) in (
       omega arith,
       l .loop .inv .1,
-      row-adds-none rows 256 (l .loop .counts) (l .loop .i) zeroOpen (omega arith) (omega arith) (l .loop .inv .2)
+      row-adds-none rows streamSlots (l .loop .counts) (l .loop .i) zeroOpen (omega arith) (omega arith) (l .loop .inv .2)
           (⊎-elim (λ w. inr (ltb-false _ _ (w .1 .left))) (λ w. inl (sym (c .before .open-used .ensures) ∙ w .left)) (c .if1 .came)),
     )
 
@@ -91,7 +92,7 @@ returns : tie.Need-returns Inv-loop μ-loop
 returns c =
     let l = c .before in
     let z : l .loop .i ≡ 0 = omega arith in
-    all-counted (l .before .args .t1 .rows) 256 (l .loop .counts) (subst (Counted (l .before .args .t1 .rows) 256 (l .loop .counts)) z (l .loop .inv .2))
+    all-counted (l .before .args .t1 .rows) streamSlots (l .loop .counts) (subst (Counted (l .before .args .t1 .rows) streamSlots (l .loop .counts)) z (l .loop .inv .2))
 
 pub counts-of-streams-spec : {M : Type 1} → statement M
 counts-of-streams-spec =

@@ -7,6 +7,7 @@ use borrow.Author.Needs.{needs}
 use borrow.Author.Tests.{not-true, not-false}
 use Rattle.lists.specs.Lists.{allFrom}
 use Rattle.lists.proofs.Passes.{numbered-stops, numbered-next, numbered-end}
+use Rattle.records.specs.Sizes.{streamSlots}
 use Rattle.records.proofs.Lengths.{streams-length}
 use Rattle.records.proofs.Elements.{arraylessStream}
 use Rattle.audit_counts.proofs.CountsScan.{foundTest, counts-found}
@@ -18,7 +19,7 @@ Inv-loop v counts i₀ i =
     allFrom (foundTest counts) 0 (v .streams) ≡ allFrom (foundTest counts) i (drop i (v .streams))
 
 abbrev μ-loop : tie.MeasureT-loop
-μ-loop v counts i₀ i = 256 - i
+μ-loop v counts i₀ i = streamSlots - i
 
 counts-of-streams-requires : tie.Need-counts-of-streams-requires Inv-loop μ-loop
 counts-of-streams-requires c κs = search needs
@@ -50,7 +51,7 @@ returns c =
     let size = streams-length (a .args .t1) _ (a .good .0) in
     let found = k .counts-of-streams .result in
     sym
-    (counts-found streams (a .args .t .rows) 256 found size (k .counts-of-streams .ensures)
+    (counts-found streams (a .args .t .rows) streamSlots found size (k .counts-of-streams .ensures)
     ∙ l .loop .inv
     ∙ numbered-stops (foundTest found) streams (l .loop .i) arraylessStream (omega arith)
     (sym (c .before .same-counts .ensures) ∙ not-true _ (c .if1 .taken)))
@@ -82,7 +83,7 @@ returns-2 c =
     let size = streams-length (a .args .t1) _ (a .good .0) in
     let found = k .counts-of-streams .result in
     sym
-    (counts-found streams (a .args .t .rows) 256 found size (k .counts-of-streams .ensures)
+    (counts-found streams (a .args .t .rows) streamSlots found size (k .counts-of-streams .ensures)
     ∙ l .loop .inv
     ∙ numbered-end (foundTest found) streams (l .loop .i) (omega arith))
 

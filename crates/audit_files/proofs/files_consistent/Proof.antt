@@ -11,20 +11,27 @@ use Rattle.lists.specs.Lists.{all}
 use Rattle.lists.proofs.Default.{getD-default}
 use Rattle.lists.proofs.Scan.{all-end}
 use Rattle.lists.proofs.Passes.{pass-stops, pass-next}
-use Rattle.records.specs.Slots.{zeroFile, isDirectory}
+use Rattle.records.specs.Sizes.{fileSlots}
+use Rattle.records.specs.Slots.{zeroFile, isDirectory, fileUsed}
 use Rattle.tables.specs.Tables.{fileAt}
 use Rattle.records.specs.declared.File.{File}
 use Rattle.records.proofs.Lengths.{files-length}
 use Rattle.records.proofs.Elements.{arraylessFile}
-use Rattle.consistency.specs.Test.{fileTest, filesTest}
+use Rattle.consistency.specs.Slots.{slotTest, slotsTest}
+use Rattle.consistency.specs.Good.{goodFile, isZeroFile}
+use Rattle.consistency.specs.Test.{filesTest}
 use Rattle.audit_files.proofs.files_consistent.Statement.{statement}
 use Rattle.audit_files.proofs.files_consistent.Tie as tie
+
+-- a slot, used or free
+abbrev fileTest : File → Bool
+fileTest = slotTest fileUsed goodFile isZeroFile
 
 abbrev Inv-loop : tie.InvT-loop
 Inv-loop v i₀ i = filesTest (v .files) ≡ all fileTest (drop i (v .files))
 
 abbrev μ-loop : tie.MeasureT-loop
-μ-loop v i₀ i = 128 - i
+μ-loop v i₀ i = fileSlots - i
 
 element-copy-out-root : tie.Need-element-copy-out-root Inv-loop μ-loop
 element-copy-out-root c = search needs
@@ -40,17 +47,17 @@ returns c =
     let fs = a .args .t1 .files in
     let h = files-length (a .args .t1) _ (a .good .0) in
     let e = ap (λ (f : File). isDirectory (f .«file_type»)) (getD-default fs 0 arraylessFile zeroFile (omega arith)) in
-    rw (eq-eqb _ 128 h, ← e, ← d .is-directory .ensures, not-true (d .is-directory .result) (c .if1 .taken))
+    rw (← e, ← d .is-directory .ensures, not-true (d .is-directory .result) (c .if1 .taken))
 
 loop-holds : tie.Need-loop-holds Inv-loop μ-loop
-unfolding filesTest fileAt
+unfolding filesTest slotsTest fileAt
 loop-holds c =
     let d = c .before in
     let a = d .before .before in
     let fs = a .args .t1 .files in
     let h = files-length (a .args .t1) _ (a .good .0) in
     let e = ap (λ (f : File). isDirectory (f .«file_type»)) (getD-default fs 0 arraylessFile zeroFile (omega arith)) in
-    rw (eq-eqb _ 128 h, ← e, ← d .is-directory .ensures, not-false (d .is-directory .result) (c .if1 .left))
+    rw (eq-eqb _ fileSlots h, ← e, ← d .is-directory .ensures, not-false (d .is-directory .result) (c .if1 .left))
 
 mul-f : tie.Need-mul-f Inv-loop μ-loop
 mul-f c = search needs

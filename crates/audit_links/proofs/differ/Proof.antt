@@ -5,9 +5,9 @@ use borrow.Author.Needs.{needs}
 use borrow.Author.Tests.{not-false}
 use Rattle.lists.proofs.Tests.{or-left, or-right}
 use Rattle.records.specs.Slots.{linkUsed}
-use Rattle.consistency.specs.Test.{linkNamesDiffer}
 use Rattle.audit_links.proofs.LinksScan.{parents-differ, parents-same}
 use Rattle.audit_links.proofs.differ.Statement.{statement}
+use Rattle.consistency.specs.Good.{linkNamesDiffer}
 use Rattle.audit_links.proofs.differ.Tie as tie
 
 returns : tie.Need-returns

@@ -12,10 +12,11 @@ use Rattle.lists.proofs.Passes.{pairTest, pairs-kept, pairs-passed, pairs-end, 
 use Rattle.lists.proofs.Scan.{all-end}
 use Rattle.records.specs.Slots.{linkUsed}
 use Rattle.records.specs.declared.Volume.{Volume}
+use Rattle.records.specs.Sizes.{linkSlots}
 use Rattle.records.proofs.Lengths.{links-length}
 use Rattle.records.proofs.Elements.{arraylessLink}
-use Rattle.consistency.specs.Test.{linkNamesDiffer}
 use Rattle.audit_links.proofs.names_differ.Statement.{statement}
+use Rattle.consistency.specs.Good.{linkNamesDiffer}
 use Rattle.audit_links.proofs.names_differ.Tie as tie
 
 -- all pairs of the links, and those from i on
@@ -29,13 +30,13 @@ Inv-loop2 v i l j₀ j =
     && pairs linkNamesDiffer (keep linkUsed (drop (i + 1) (v .links))))
 
 abbrev μ-loop2 : tie.MeasureT-loop2
-μ-loop2 v i l j₀ j = 192 - j
+μ-loop2 v i l j₀ j = linkSlots - j
 
 abbrev Inv-loop : tie.InvT-loop
 Inv-loop v i₀ i = pairsOf v ≡ pairs linkNamesDiffer (keep linkUsed (drop i (v .links)))
 
 abbrev μ-loop : tie.MeasureT-loop
-μ-loop v i₀ i = 192 - i
+μ-loop v i₀ i = linkSlots - i
 
 loop-holds : tie.Need-loop-holds Inv-loop2 μ-loop2 Inv-loop μ-loop
 loop-holds c = search needs

@@ -8,10 +8,10 @@ use borrow.Author.Needs.{needs}
 use Rattle.lists.specs.Lists.{all}
 use Rattle.lists.proofs.Scan.{all-end, all-fails}
 use Rattle.lists.proofs.Passes.{pass-stops, pass-next}
+use Rattle.records.specs.Sizes.{linkSlots}
 use Rattle.records.proofs.Lengths.{files-length, links-length}
 use Rattle.records.proofs.Elements.{arraylessFile, arraylessLink}
-use Rattle.consistency.specs.Test.{linkTest}
-use Rattle.audit_links.proofs.LinksScan.{past-file, past-parent, slot-is}
+use Rattle.audit_links.proofs.LinksScan.{linkTest, past-file, past-parent, slot-is}
 use Rattle.audit_links.proofs.slots_consistent.Statement.{statement}
 use Rattle.audit_links.proofs.slots_consistent.Tie as tie
 
@@ -19,7 +19,7 @@ abbrev Inv-loop : tie.InvT-loop
 Inv-loop v i₀ i = all (linkTest (v .files)) (v .links) ≡ all (linkTest (v .files)) (drop i (v .links))
 
 abbrev μ-loop : tie.MeasureT-loop
-μ-loop v i₀ i = 192 - i
+μ-loop v i₀ i = linkSlots - i
 
 loop-holds : tie.Need-loop-holds Inv-loop μ-loop
 loop-holds c = search needs

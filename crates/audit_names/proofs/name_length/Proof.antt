@@ -4,16 +4,17 @@ use mathlib.Core.Path.{_≡_, ap}
 use native.Mathlib.Omega.{arith}
 use lib.ListN.{length, drop, List·getD-eq-default}
 use borrow.Author.Needs.{needs}
+use Rattle.records.specs.Sizes.{fileNameLimit}
 use Rattle.stored_names.specs.StoredNames.{units}
 use Rattle.stored_names.proofs.NameUnits.{units-end, units-next}
 use Rattle.audit_names.proofs.name_length.Statement.{statement}
 use Rattle.audit_names.proofs.name_length.Tie as tie
 
 abbrev Inv-loop : tie.InvT-loop
-Inv-loop name i₀ i = (i ≤ 32) × (length (units name) ≡ i + length (units (drop i name)))
+Inv-loop name i₀ i = (i ≤ fileNameLimit) × (length (units name) ≡ i + length (units (drop i name)))
 
 abbrev μ-loop : tie.MeasureT-loop
-μ-loop name i₀ i = 32 - i
+μ-loop name i₀ i = fileNameLimit - i
 
 loop-holds : tie.Need-loop-holds Inv-loop μ-loop
 loop-holds c = search needs

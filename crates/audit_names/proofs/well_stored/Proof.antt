@@ -7,22 +7,23 @@ use borrow.Author.Needs.{needs}
 use borrow.Author.Tests.{eq-eqb, ne-eqb}
 use Rattle.lists.proofs.Scan.{all-fails, all-next, all-end}
 use Rattle.lists.specs.Lists.{all}
+use Rattle.records.specs.Sizes.{fileNameLimit}
 use Rattle.stored_names.specs.StoredNames.{wellStored}
 use Rattle.audit_names.proofs.StoredUnits.{isZero, well-stored}
 use Rattle.audit_names.proofs.well_stored.Statement.{statement}
 use Rattle.audit_names.proofs.well_stored.Tie as tie
 
 abbrev Inv-loop : tie.InvT-loop
-Inv-loop name at₀ at = wellStored 32 name ≡ all isZero (drop at name)
+Inv-loop name at₀ at = wellStored fileNameLimit name ≡ all isZero (drop at name)
 
 abbrev μ-loop : tie.MeasureT-loop
-μ-loop name at₀ at = 32 - at
+μ-loop name at₀ at = fileNameLimit - at
 
 name-length-requires : tie.Need-name-length-requires Inv-loop μ-loop
 name-length-requires c κs = search needs
 
 loop-holds : tie.Need-loop-holds Inv-loop μ-loop
-loop-holds c = rw (c .name-length .ensures) (well-stored (c .before .args .t1) 32 (omega arith))
+loop-holds c = rw (c .name-length .ensures) (well-stored (c .before .args .t1) fileNameLimit (omega arith))
 
 mul-if1 : tie.Need-mul-if1 Inv-loop μ-loop
 mul-if1 c = search needs

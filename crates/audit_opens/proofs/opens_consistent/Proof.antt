@@ -1,5 +1,5 @@
 -- `audit_opens::opens_consistent` meets its contract. The invariant: what is asked is what the rows from i on
--- say, and whether every two used rows agree.
+-- say, and whether the handles of every two used rows differ.
 use Prim.Native.Nat.{_-_}
 use mathlib.Core.Path.{_≡_, refl, sym, _∙_, ap}
 use mathlib.Core.Bool.{Bool, _&&_}
@@ -9,22 +9,24 @@ use borrow.Author.Needs.{needs}
 use borrow.Author.Tests.{not-true, not-false}
 use Rattle.lists.specs.Lists.{all, pairs}
 use Rattle.lists.proofs.Scan.{all-fails, all-next, all-end}
+use Rattle.records.specs.Sizes.{openSlots}
 use Rattle.records.specs.Slots.{zeroOpen}
 use Rattle.records.specs.Namespace.{namespace}
 use Rattle.records.proofs.Lengths.{rows-length, streams-length}
+use Rattle.consistency.specs.Good.{handlesDiffer}
 use Rattle.consistency.specs.Relations.{live}
-use Rattle.consistency.specs.Test.{openTest, opensTest}
-use Rattle.audit_opens.proofs.OpensScan.{agree, row-found, row-past, opens-next, opens-none}
+use Rattle.consistency.specs.Test.{opensTest}
+use Rattle.audit_opens.proofs.OpensScan.{openTest, row-found, row-past, opens-next, opens-none}
 use Rattle.audit_opens.proofs.opens_consistent.Statement.{statement}
 use Rattle.audit_opens.proofs.opens_consistent.Tie as tie
 
 abbrev Inv-loop : tie.InvT-loop
 Inv-loop v t next i₀ i =
     opensTest (namespace v .streams) next (t .rows)
-    ≡ (all (openTest (namespace v .streams) next) (drop i (t .rows)) && pairs agree (live (t .rows)))
+    ≡ (all (openTest (namespace v .streams) next) (drop i (t .rows)) && pairs handlesDiffer (live (t .rows)))
 
 abbrev μ-loop : tie.MeasureT-loop
-μ-loop v t next i₀ i = 256 - i
+μ-loop v t next i₀ i = openSlots - i
 
 returns : tie.Need-returns Inv-loop μ-loop
 returns c =
@@ -62,7 +64,7 @@ returns-2 c =
     let o = getD rows (l .loop .i) zeroOpen in
     sym
     (l .loop .inv
-    ∙ ap (λ (b : Bool). b && pairs agree (live rows))
+    ∙ ap (λ (b : Bool). b && pairs handlesDiffer (live rows))
     (all-fails (openTest (namespace v .streams) next) rows (l .loop .i) zeroOpen (omega arith)
     (row-past (v .streams) next o (omega (arith, c .if2 .taken)) (omega arith))))
 
@@ -88,7 +90,7 @@ returns-3 c =
     let o = getD rows (l .loop .i) zeroOpen in
     sym
     (l .loop .inv
-    ∙ ap (λ (b : Bool). b && pairs agree (live rows))
+    ∙ ap (λ (b : Bool). b && pairs handlesDiffer (live rows))
     (all-fails (openTest (namespace v .streams) next) rows (l .loop .i) zeroOpen (omega arith)
     (row-found (v .streams) next o _ (omega (arith, c .before .before .before .if2 .left)) (c .before .row-consistent .ensures)
     (not-true _ (c .if3 .taken)))))
@@ -111,13 +113,13 @@ loop-again c =
     let streams = streams-length v _ (a .good .0) in
     let o = getD rows (l .loop .i) zeroOpen in
     l .loop .inv
-    ∙ ap (λ (b : Bool). b && pairs agree (live rows))
+    ∙ ap (λ (b : Bool). b && pairs handlesDiffer (live rows))
     (all-next (openTest (namespace v .streams) next) rows (l .loop .i) zeroOpen (omega arith)
     (row-found (v .streams) next o _ (omega (arith, c .before .before .before .if2 .left)) (c .before .row-consistent .ensures)
     (not-false _ (c .if3 .left))))
 
-all-rows-agree-requires : tie.Need-all-rows-agree-requires Inv-loop μ-loop
-all-rows-agree-requires c κs = search needs
+all-handles-differ-requires : tie.Need-all-handles-differ-requires Inv-loop μ-loop
+all-handles-differ-requires c κs = search needs
 
 returns-4 : tie.Need-returns-4 Inv-loop μ-loop
 returns-4 c =
@@ -127,10 +129,10 @@ returns-4 c =
     let rows = a .args .t2 .rows in
     let next = v .«next_handle» .0 in
     let size = rows-length (a .args .t2) _ (a .good .1 .0) in
-    c .all-rows-agree .ensures
+    c .all-handles-differ .ensures
     ∙ sym
     (l .loop .inv
-    ∙ ap (λ (b : Bool). b && pairs agree (live rows))
+    ∙ ap (λ (b : Bool). b && pairs handlesDiffer (live rows))
     (all-end (openTest (namespace v .streams) next) rows (l .loop .i) (omega arith)))
 
 pub opens-consistent-spec : {M : Type 1} → statement M
@@ -152,5 +154,5 @@ opens-consistent-spec =
     add-i
     loop-less
     loop-again
-    all-rows-agree-requires
+    all-handles-differ-requires
     returns-4)

@@ -6,18 +6,18 @@ use Rattle.audit_opens.proofs.row_consistent.Tie as tie
 open-used-requires : tie.Need-open-used-requires
 open-used-requires c κs = search needs
 
-used-open-requires : tie.Need-used-open-requires
-used-open-requires c κs = search needs
+good-open-requires : tie.Need-good-open-requires
+good-open-requires c κs = search needs
 
-free-open-requires : tie.Need-free-open-requires
-free-open-requires c κs = search needs
+is-zero-open-requires : tie.Need-is-zero-open-requires
+is-zero-open-requires c κs = search needs
 
 returns : tie.Need-returns
-returns c = rw (← c .before .before .open-used .ensures, c .before .if1 .taken) (c .used-open .ensures)
+returns c = rw (← c .before .before .open-used .ensures, c .before .if1 .taken) (c .good-open .ensures)
 
 returns-2 : tie.Need-returns-2
-returns-2 c = rw (← c .before .before .open-used .ensures, c .before .if1 .left) (c .free-open .ensures)
+returns-2 c = rw (← c .before .before .open-used .ensures, c .before .if1 .left) (c .is-zero-open .ensures)
 
 pub row-consistent-spec : {M : Type 1} → statement M
 row-consistent-spec =
-    tie.close (tie.spec open-used-requires used-open-requires free-open-requires returns returns-2)
+    tie.close (tie.spec open-used-requires good-open-requires is-zero-open-requires returns returns-2)

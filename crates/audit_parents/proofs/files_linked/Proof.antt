@@ -17,7 +17,10 @@ use Rattle.records.specs.declared.Volume.{Volume}
 use Rattle.records.proofs.Lengths.{files-length}
 use Rattle.records.proofs.Elements.{arraylessFile}
 use Rattle.consistency.specs.Relations.{parentOf}
-use Rattle.consistency.specs.Test.{linkTest, linksOfFile}
+use Rattle.consistency.specs.Slots.{slotTest}
+use Rattle.consistency.specs.Good.{isZeroLink}
+use Rattle.consistency.specs.Test.{goodLinkOf, linksOfFile}
+use Rattle.records.specs.Sizes.{fileSlots}
 use Rattle.audit_parents.proofs.ParentsScan.{parent-in, unused-passes, wrong-count, right-count}
 use Rattle.audit_parents.proofs.files_linked.Statement.{statement}
 use Rattle.audit_parents.proofs.files_linked.Tie as tie
@@ -26,23 +29,23 @@ use Rattle.audit_parents.proofs.files_linked.Tie as tie
 abbrev fileTest : Volume → ℕ → File → Bool
 fileTest v n f = linksOfFile (keep linkUsed (v .links)) n f
 
-abbrev Slots : Volume → Type 0
-Slots v = all (linkTest (v .files)) (v .links) ≡ true
+abbrev Passed : Volume → Type 0
+Passed v = all (slotTest linkUsed (goodLinkOf (v .files)) isZeroLink) (v .links) ≡ true
 
 abbrev number : ℕ → FileNo
 number n = record { 0 = n }
 
 -- the table of parents is what the climb asks for
-parents-there : (v : Volume) (up : List ℕ) → length (v .files) ≡ 128 → Slots v
-    → ((f : FileNo) → f .0 < 128 → getD up (f .0) 0 ≡ parentOf (v .links) f .0)
-    → (f : FileNo) → f .0 < 128 → (getD up (f .0) 0 ≡ parentOf (v .links) f .0) × (parentOf (v .links) f .0 < 128)
+parents-there : (v : Volume) (up : List ℕ) → length (v .files) ≡ fileSlots → Passed v
+    → ((f : FileNo) → f .0 < fileSlots → getD up (f .0) 0 ≡ parentOf (v .links) f .0)
+    → (f : FileNo) → f .0 < fileSlots → (getD up (f .0) 0 ≡ parentOf (v .links) f .0) × (parentOf (v .links) f .0 < fileSlots)
 parents-there v up h s p f b = (p f b, omega (arith, parent-in (v .files) (v .links) s f (omega arith)))
 
 abbrev Inv-loop : tie.InvT-loop
-Inv-loop v counts up i₀ i = Slots v → allFrom (fileTest v) 0 (v .files) ≡ allFrom (fileTest v) i (drop i (v .files))
+Inv-loop v counts up i₀ i = Passed v → allFrom (fileTest v) 0 (v .files) ≡ allFrom (fileTest v) i (drop i (v .files))
 
 abbrev μ-loop : tie.MeasureT-loop
-μ-loop v counts up i₀ i = 128 - i
+μ-loop v counts up i₀ i = fileSlots - i
 
 link-counts-requires : tie.Need-link-counts-requires Inv-loop μ-loop
 link-counts-requires c κs = search needs

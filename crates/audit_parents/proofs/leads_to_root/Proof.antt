@@ -9,22 +9,23 @@ use borrow.Author.Needs.{needs}
 use Rattle.records.specs.declared.FileNo.{FileNo}
 use Rattle.records.specs.declared.Link.{Link}
 use Rattle.consistency.specs.Relations.{parentOf, reaches}
+use Rattle.records.specs.Sizes.{fileSlots}
 use Rattle.audit_parents.proofs.ParentsScan.{up-here, up-next}
 use Rattle.audit_parents.proofs.leads_to_root.Statement.{statement}
 use Rattle.audit_parents.proofs.leads_to_root.Tie as tie
 
 -- the table has the parents, and none is past its end
 abbrev Parents : List ℕ → List Link → Type 0
-Parents up ls = (f : FileNo) → f .0 < 128 → (getD up (f .0) 0 ≡ parentOf ls f .0) × (parentOf ls f .0 < 128)
+Parents up ls = (f : FileNo) → f .0 < fileSlots → (getD up (f .0) 0 ≡ parentOf ls f .0) × (parentOf ls f .0 < fileSlots)
 
 abbrev file : ℕ → FileNo
 file n = record { 0 = n }
 
 abbrev Inv-loop : tie.InvT-loop
 Inv-loop from up at₀ left₀ at left =
-    (left ≤ 128)
-    × ((ls : List Link) → Parents up ls → from < 128
-    → (at < 128) × (reaches ls 128 (file from) ≡ reaches ls left (file at)))
+    (left ≤ fileSlots)
+    × ((ls : List Link) → Parents up ls → from < fileSlots
+    → (at < fileSlots) × (reaches ls fileSlots (file from) ≡ reaches ls left (file at)))
 
 abbrev μ-loop : tie.MeasureT-loop
 μ-loop from up at₀ left₀ at left = left

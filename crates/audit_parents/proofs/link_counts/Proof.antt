@@ -13,6 +13,7 @@ use Rattle.records.specs.declared.Link.{Link}
 use Rattle.records.proofs.Lengths.{links-length}
 use Rattle.records.proofs.Elements.{arraylessLink}
 use Rattle.consistency.specs.Relations.{linkTo}
+use Rattle.records.specs.Sizes.{fileSlots, linkSlots}
 use Rattle.audit_parents.proofs.ParentsScan.{Noted, noted-skip, noted-set, count-other, count-more}
 use Rattle.audit_parents.proofs.link_counts.Statement.{statement}
 use Rattle.audit_parents.proofs.link_counts.Tie as tie
@@ -21,7 +22,7 @@ abbrev linksTo : FileNo → List Link → ℕ
 linksTo f ls = count (linkTo f) ls
 
 abbrev Inv-loop : tie.InvT-loop
-Inv-loop v counts₀ i₀ counts i = (i ≤ 192) × (length counts ≡ 128) × Noted linksTo counts (drop i (v .links))
+Inv-loop v counts₀ i₀ counts i = (i ≤ linkSlots) × (length counts ≡ fileSlots) × Noted linksTo counts (drop i (v .links))
 
 abbrev μ-loop : tie.MeasureT-loop
 μ-loop v counts₀ i₀ counts i = i
@@ -33,8 +34,8 @@ loop-holds c =
       omega arith,
       refl,
       λ f b.
-          getD-replicate {A = ℕ} 128 (f .0) 0 0 b
-          ∙ sym (ap (count (linkTo f)) (drop-of-length-le (c .args .t1 .links) {i = 192} (omega arith))),
+          getD-replicate {A = ℕ} fileSlots (f .0) 0 0 b
+          ∙ sym (ap (count (linkTo f)) (drop-of-length-le (c .args .t1 .links) {i = linkSlots} (omega arith))),
     )
 
 sub-i : tie.Need-sub-i Inv-loop μ-loop

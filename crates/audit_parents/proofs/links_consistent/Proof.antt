@@ -5,7 +5,9 @@ use borrow.Author.Needs.{needs}
 use borrow.Author.Tests.{eq-eqb, not-true, not-false}
 use Rattle.lists.proofs.Tests.{and-left}
 use Rattle.records.proofs.Lengths.{links-length}
+use Rattle.consistency.specs.Slots.{slotsTest}
 use Rattle.consistency.specs.Test.{linksTest}
+use Rattle.records.specs.Sizes.{linkSlots}
 use Rattle.audit_parents.proofs.links_consistent.Statement.{statement}
 use Rattle.audit_parents.proofs.links_consistent.Tie as tie
 
@@ -13,12 +15,12 @@ link-slots-consistent-requires : tie.Need-link-slots-consistent-requires
 link-slots-consistent-requires c κs = search needs
 
 returns : tie.Need-returns
-unfolding linksTest
+unfolding linksTest slotsTest
 returns c =
     let s = c .before in
     let a = s .before in
     rw (
-      eq-eqb (length (a .args .v .links)) 192 (links-length (a .args .v) _ (a .good .0)),
+      eq-eqb (length (a .args .v .links)) linkSlots (links-length (a .args .v) _ (a .good .0)),
       ← s .link-slots-consistent .ensures,
       not-true (s .link-slots-consistent .result) (c .if1 .taken),
     )
@@ -27,13 +29,13 @@ files-linked-requires : tie.Need-files-linked-requires
 files-linked-requires c κs = search needs
 
 returns-2 : tie.Need-returns-2
-unfolding linksTest
+unfolding linksTest slotsTest
 returns-2 c =
     let s = c .before .before in
     let a = s .before in
     let passed = not-false (s .link-slots-consistent .result) (c .before .if1 .left) in
     rw (
-      eq-eqb (length (a .args .v .links)) 192 (links-length (a .args .v) _ (a .good .0)),
+      eq-eqb (length (a .args .v .links)) linkSlots (links-length (a .args .v) _ (a .good .0)),
       ← s .link-slots-consistent .ensures,
       passed,
     )

@@ -6,14 +6,15 @@ use lib.ListN.{length, getD, length-set}
 use lib.Seq.{getD-set-same, getD-set-other}
 use borrow.Author.Count.{below-more}
 use borrow.Author.Needs.{needs}
+use Rattle.records.specs.Sizes.{fileSlots}
 use Rattle.audit_parents.proofs.own_numbers.Statement.{statement}
 use Rattle.audit_parents.proofs.own_numbers.Tie as tie
 
 abbrev Inv-loop : tie.InvT-loop
-Inv-loop numbers₀ i₀ numbers i = (i ≤ 128) × (length numbers ≡ 128) × ((n : ℕ) → n < i → getD numbers n 0 ≡ n)
+Inv-loop numbers₀ i₀ numbers i = (i ≤ fileSlots) × (length numbers ≡ fileSlots) × ((n : ℕ) → n < i → getD numbers n 0 ≡ n)
 
 abbrev μ-loop : tie.MeasureT-loop
-μ-loop numbers₀ i₀ numbers i = 128 - i
+μ-loop numbers₀ i₀ numbers i = fileSlots - i
 
 loop-holds : tie.Need-loop-holds Inv-loop μ-loop
 loop-holds c = search needs

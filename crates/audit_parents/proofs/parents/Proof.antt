@@ -11,6 +11,7 @@ use Rattle.records.specs.declared.Link.{Link}
 use Rattle.records.proofs.Lengths.{links-length}
 use Rattle.records.proofs.Elements.{arraylessLink}
 use Rattle.consistency.specs.Relations.{parentOf}
+use Rattle.records.specs.Sizes.{fileSlots, linkSlots}
 use Rattle.audit_parents.proofs.ParentsScan.{Noted, noted-skip, noted-set, names-it, parent-here, parent-other}
 use Rattle.audit_parents.proofs.parents.Statement.{statement}
 use Rattle.audit_parents.proofs.parents.Tie as tie
@@ -19,7 +20,7 @@ abbrev above : FileNo → List Link → ℕ
 above f ls = parentOf ls f .0
 
 abbrev Inv-loop : tie.InvT-loop
-Inv-loop v up₀ i₀ up i = (i ≤ 192) × (length up ≡ 128) × Noted above up (drop i (v .links))
+Inv-loop v up₀ i₀ up i = (i ≤ linkSlots) × (length up ≡ fileSlots) × Noted above up (drop i (v .links))
 
 abbrev μ-loop : tie.MeasureT-loop
 μ-loop v up₀ i₀ up i = i
@@ -36,7 +37,7 @@ loop-holds c =
       omega arith,
       λ f b.
           c .own-numbers .ensures (f .0) b
-          ∙ sym (ap (above f) (drop-of-length-le (a .args .t1 .links) {i = 192} (omega arith))),
+          ∙ sym (ap (above f) (drop-of-length-le (a .args .t1 .links) {i = linkSlots} (omega arith))),
     )
 
 sub-i : tie.Need-sub-i Inv-loop μ-loop

@@ -8,6 +8,7 @@ use borrow.Author.Needs.{needs}
 use borrow.Author.Tests.{not-true, not-false}
 use Rattle.lists.specs.Lists.{allFrom, keep}
 use Rattle.lists.proofs.Passes.{numbered-stops, numbered-next, numbered-end}
+use Rattle.records.specs.Sizes.{fileSlots}
 use Rattle.records.specs.Namespace.{bareUsed, namespace}
 use Rattle.records.proofs.Lengths.{files-length}
 use Rattle.records.proofs.Elements.{arraylessFile}
@@ -21,7 +22,7 @@ Inv-loop v found i₀ i =
     ≡ allFrom (foundTest (found .all) (found .unnamed)) i (drop i (v .files))
 
 abbrev μ-loop : tie.MeasureT-loop
-μ-loop v found i₀ i = 128 - i
+μ-loop v found i₀ i = fileSlots - i
 
 streams-of-files-requires : tie.Need-streams-of-files-requires Inv-loop μ-loop
 streams-of-files-requires c κs = search needs
@@ -59,7 +60,7 @@ returns c =
     let size = files-length v _ (a .good .0) in
     let found = k .streams-of-files .result in
     sym
-    (files-found (v .files) (keep bareUsed (namespace v .streams)) 128 (found .all) (found .unnamed) size
+    (files-found (v .files) (keep bareUsed (namespace v .streams)) fileSlots (found .all) (found .unnamed) size
     (k .streams-of-files .ensures)
     ∙ l .loop .inv
     ∙ numbered-stops (foundTest (found .all) (found .unnamed)) (v .files) (l .loop .i) arraylessFile (omega arith)
@@ -92,7 +93,7 @@ returns-2 c =
     let size = files-length v _ (a .good .0) in
     let found = k .streams-of-files .result in
     sym
-    (files-found (v .files) (keep bareUsed (namespace v .streams)) 128 (found .all) (found .unnamed) size
+    (files-found (v .files) (keep bareUsed (namespace v .streams)) fileSlots (found .all) (found .unnamed) size
     (k .streams-of-files .ensures)
     ∙ l .loop .inv
     ∙ numbered-end (foundTest (found .all) (found .unnamed)) (v .files) (l .loop .i) (omega arith))

@@ -10,13 +10,14 @@ use borrow.Author.Needs.{needs}
 use borrow.Author.Tests.{not-true, not-false}
 use Rattle.lists.specs.Lists.{all, keep, pairs}
 use Rattle.lists.proofs.Sweeps.{kept-past, all-kept-fails, all-kept-next, all-kept-end, pairs-kept, pairs-kept-end}
+use Rattle.records.specs.Sizes.{streamSlots}
 use Rattle.records.specs.Slots.{streamUsed}
 use Rattle.records.specs.Namespace.{bareUsed, namespace}
 use Rattle.records.proofs.Lengths.{streams-length}
 use Rattle.records.proofs.Elements.{arraylessStream}
-use Rattle.consistency.specs.Test.{streamNamesDiffer}
 use Rattle.audit_streams.proofs.StreamsScan.{differ, pairs-bare}
 use Rattle.audit_streams.proofs.names_differ.Statement.{statement}
+use Rattle.consistency.specs.Good.{streamNamesDiffer}
 use Rattle.audit_streams.proofs.names_differ.Tie as tie
 
 abbrev Inv-loop2 : tie.InvT-loop2
@@ -25,14 +26,14 @@ Inv-loop2 v i s j₀ j =
     ≡ (all (differ s) (keep streamUsed (drop j (v .streams))) && pairs differ (keep streamUsed (drop (i + 1) (v .streams))))
 
 abbrev μ-loop2 : tie.MeasureT-loop2
-μ-loop2 v i s j₀ j = 256 - j
+μ-loop2 v i s j₀ j = streamSlots - j
 
 abbrev Inv-loop : tie.InvT-loop
 Inv-loop v i₀ i =
     pairs streamNamesDiffer (keep bareUsed (namespace v .streams)) ≡ pairs differ (keep streamUsed (drop i (v .streams)))
 
 abbrev μ-loop : tie.MeasureT-loop
-μ-loop v i₀ i = 256 - i
+μ-loop v i₀ i = streamSlots - i
 
 loop-holds : tie.Need-loop-holds Inv-loop2 μ-loop2 Inv-loop μ-loop
 unfolding namespace

@@ -9,11 +9,11 @@ use borrow.Author.Tests.{not-true, not-false}
 use Rattle.lists.specs.Lists.{all}
 use Rattle.lists.proofs.Scan.{all-fails, all-next, all-end}
 use Rattle.lists.proofs.Sweeps.{all-map}
+use Rattle.records.specs.Sizes.{streamSlots}
 use Rattle.records.specs.Namespace.{bare, namespace}
 use Rattle.records.proofs.Lengths.{files-length, streams-length}
 use Rattle.records.proofs.Elements.{arraylessStream}
-use Rattle.consistency.specs.Test.{streamTest}
-use Rattle.audit_streams.proofs.StreamsScan.{slot-found, slot-past}
+use Rattle.audit_streams.proofs.StreamsScan.{streamTest, slot-found, slot-past}
 use Rattle.audit_streams.proofs.slots_consistent.Statement.{statement}
 use Rattle.audit_streams.proofs.slots_consistent.Tie as tie
 
@@ -22,7 +22,7 @@ Inv-loop v i₀ i =
     all (streamTest (v .files)) (namespace v .streams) ≡ all (λ s. streamTest (v .files) (bare s)) (drop i (v .streams))
 
 abbrev μ-loop : tie.MeasureT-loop
-μ-loop v i₀ i = 256 - i
+μ-loop v i₀ i = streamSlots - i
 
 loop-holds : tie.Need-loop-holds Inv-loop μ-loop
 unfolding namespace

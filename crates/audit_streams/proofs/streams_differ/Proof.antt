@@ -3,9 +3,9 @@ use mathlib.Core.Path.{ap}
 use mathlib.Core.Bool.{not}
 use borrow.Author.Tests.{eq-eqb, ne-eqb}
 use Rattle.records.specs.Namespace.{bare}
-use Rattle.consistency.specs.Test.{streamNamesDiffer}
 use borrow.Author.Needs.{needs}
 use Rattle.audit_streams.proofs.streams_differ.Statement.{statement}
+use Rattle.consistency.specs.Good.{streamNamesDiffer}
 use Rattle.audit_streams.proofs.streams_differ.Tie as tie
 
 returns : tie.Need-returns

@@ -7,6 +7,7 @@ use mathlib.Core.Logic.{⊎-elim, inl, inr}
 use native.Mathlib.Omega.{arith}
 use borrow.Author.Needs.{needs}
 use borrow.Author.Tests.{ltb-true, ltb-false}
+use Rattle.records.specs.Sizes.{fileSlots, streamSlots}
 use Rattle.records.specs.Namespace.{namespace}
 use Rattle.records.proofs.Lengths.{streams-length}
 use Rattle.records.proofs.Elements.{arraylessStream}
@@ -15,13 +16,13 @@ use Rattle.audit_streams.proofs.streams_of_files.Statement.{statement}
 use Rattle.audit_streams.proofs.streams_of_files.Tie as tie
 
 abbrev Inv-loop : tie.InvT-loop
-Inv-loop v all₀ unnamed₀ i₀ all unnamed i = Counted (v .streams) 128 all unnamed i
+Inv-loop v all₀ unnamed₀ i₀ all unnamed i = Counted (v .streams) fileSlots all unnamed i
 
 abbrev μ-loop : tie.MeasureT-loop
-μ-loop v all₀ unnamed₀ i₀ all unnamed i = 256 - i
+μ-loop v all₀ unnamed₀ i₀ all unnamed i = streamSlots - i
 
 loop-holds : tie.Need-loop-holds Inv-loop μ-loop
-loop-holds c = none-counted (c .args .t1 .streams) 128
+loop-holds c = none-counted (c .args .t1 .streams) fileSlots
 
 mul-s : tie.Need-mul-s Inv-loop μ-loop
 mul-s c = search needs
@@ -51,7 +52,7 @@ add-all c =
     let ss = a .args .t1 .streams in
     let size = streams-length (a .args .t1) _ (a .good .0) in
     let room =
-    every-room ss 128 (l .loop .all) (l .loop .unnamed) (l .loop .i) (l .loop .inv) arraylessStream
+    every-room ss fileSlots (l .loop .all) (l .loop .unnamed) (l .loop .i) (l .loop .inv) arraylessStream
     (ltb-true _ _ (c .before .if2 .taken)) in
     record { fits = omega arith }
 
@@ -74,7 +75,7 @@ add-unnamed c =
     let ss = a .args .t1 .streams in
     let size = streams-length (a .args .t1) _ (a .good .0) in
     let room =
-    unnamed-room ss 128 (l .loop .all) (l .loop .unnamed) (l .loop .i) (l .loop .inv) arraylessStream
+    unnamed-room ss fileSlots (l .loop .all) (l .loop .unnamed) (l .loop .i) (l .loop .inv) arraylessStream
     (ltb-true _ _ (c .before .if2 .taken)) (c .one-if-unnamed .ensures) in
     record { fits = omega arith }
 
@@ -98,12 +99,12 @@ loop-again c =
     let size = streams-length (a .args .t1) _ (a .good .0) in
     ⊎-elim
     (λ w.
-    subst₂ (λ (e u : List ℕ). Counted ss 128 e u (l .loop .i + 1)) (sym (w .3)) (sym (w .4))
-    (stream-adds ss 128 (l .loop .all) (l .loop .unnamed) (l .loop .i) (l .loop .inv) arraylessStream (omega arith)
+    subst₂ (λ (e u : List ℕ). Counted ss fileSlots e u (l .loop .i + 1)) (sym (w .3)) (sym (w .4))
+    (stream-adds ss fileSlots (l .loop .all) (l .loop .unnamed) (l .loop .i) (l .loop .inv) arraylessStream (omega arith)
     (sym (c .before .stream-used .ensures) ∙ w .0 .taken) (ltb-true _ _ (w .1 .taken)) (w .2 .ensures)))
     (λ w.
-    subst₂ (λ (e u : List ℕ). Counted ss 128 e u (l .loop .i + 1)) (sym (w .1)) (sym (w .2))
-    (stream-skips ss 128 (l .loop .all) (l .loop .unnamed) (l .loop .i) (l .loop .inv) arraylessStream (omega arith)
+    subst₂ (λ (e u : List ℕ). Counted ss fileSlots e u (l .loop .i + 1)) (sym (w .1)) (sym (w .2))
+    (stream-skips ss fileSlots (l .loop .all) (l .loop .unnamed) (l .loop .i) (l .loop .inv) arraylessStream (omega arith)
     (⊎-elim (λ x. inr (ltb-false _ _ (x .1 .left))) (λ x. inl (sym (c .before .stream-used .ensures) ∙ x .left)) (w .0 .came))))
     (c .if1 .came)
 
@@ -114,7 +115,7 @@ returns c =
     let a = l .before in
     let ss = a .args .t1 .streams in
     let size = streams-length (a .args .t1) _ (a .good .0) in
-    all-counted ss 128 (l .loop .all) (l .loop .unnamed) (l .loop .i) (l .loop .inv) (omega arith)
+    all-counted ss fileSlots (l .loop .all) (l .loop .unnamed) (l .loop .i) (l .loop .inv) (omega arith)
 
 pub streams-of-files-spec : {M : Type 1} → statement M
 streams-of-files-spec =

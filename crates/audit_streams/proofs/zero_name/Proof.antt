@@ -4,6 +4,7 @@ use native.Mathlib.Omega.{arith}
 use borrow.Author.Tests.{ne-eqb}
 use Rattle.audit_names.proofs.StoredUnits.{zeros-stored, zeros-not}
 use borrow.Author.Needs.{needs}
+use Rattle.records.specs.Sizes.{streamNameLimit}
 use Rattle.audit_streams.proofs.zero_name.Statement.{statement}
 use Rattle.audit_streams.proofs.zero_name.Tie as tie
 
@@ -14,10 +15,10 @@ well-stored-requires : tie.Need-well-stored-requires
 well-stored-requires c κs = search needs
 
 returns : tie.Need-returns
-returns c = c .well-stored .ensures ∙ zeros-stored 32 (c .before .before .args .t1) (c .before .if1 .taken)
+returns c = c .well-stored .ensures ∙ zeros-stored streamNameLimit (c .before .before .args .t1) (c .before .if1 .taken)
 
 returns-2 : tie.Need-returns-2
-returns-2 c = ne-eqb _ _ (c .if1 .left) ∙ sym (zeros-not 32 (c .before .args .t1) (omega arith) (c .if1 .left))
+returns-2 c = ne-eqb _ _ (c .if1 .left) ∙ sym (zeros-not streamNameLimit (c .before .args .t1) (omega arith) (c .if1 .left))
 
 pub zero-name-spec : {M : Type 1} → statement M
 zero-name-spec = tie.close (tie.spec array-read-if1 well-stored-requires returns returns-2)

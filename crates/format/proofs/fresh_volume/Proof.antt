@@ -1,7 +1,7 @@
 -- `format::fresh_volume` meets its contract: each table has the root's record and those of free slots.
-use mathlib.Core.List.{_∷_}
-use lib.ListN.{replicate}
+use lib.ListN.{replicate, set}
 use borrow.Author.Needs.{needs}
+use Rattle.records.specs.Sizes.{fileSlots, linkSlots, streamSlots}
 use Rattle.records.specs.Slots.{zeroFile, zeroLink, zeroStream}
 use Rattle.format.specs.Format.{freshVolume}
 use Rattle.format.proofs.fresh_volume.Statement.{statement}
@@ -27,9 +27,9 @@ returns c =
     record {
       «read_only» = r .before .args .read-only;
       «next_handle» = record { 0 = 1 };
-      files = r .root-file .ensures i ∷ replicate 127 zeroFile;
-      links = replicate 192 zeroLink;
-      streams = c .root-stream .ensures i ∷ replicate 255 zeroStream;
+      files = set (replicate fileSlots zeroFile) 0 (r .root-file .ensures i);
+      links = replicate linkSlots zeroLink;
+      streams = set (replicate streamSlots zeroStream) 0 (c .root-stream .ensures i);
     }
 
 pub fresh-volume-spec : {M : Type 1} → statement M

@@ -4,21 +4,22 @@ use mathlib.Core.Path.{_≡_, refl, sym, _∙_}
 use native.Mathlib.Omega.{arith}
 use borrow.Author.Needs.{needs}
 use Rattle.lists.specs.Lists.{firstAfter}
+use Rattle.records.specs.Sizes.{fileSlots}
 use Rattle.records.specs.Slots.{fileUsed}
-use Rattle.free_slots.specs.Free.{fileSlot, freeFile}
+use Rattle.free_slots.specs.Free.{fileSlot, freeFileSlot}
 use Rattle.records.proofs.Lengths.{files-length}
 use Rattle.lists.proofs.Searches.{freeFrom, free-here, free-next, free-none}
 use Rattle.free_slots.proofs.free_file.Statement.{statement}
 use Rattle.free_slots.proofs.free_file.Tie as tie
 
 abbrev Inv-loop : tie.InvT-loop
-Inv-loop v i₀ i = freeFile v ≡ freeFrom fileSlot fileUsed (v .files) i
+Inv-loop v i₀ i = freeFileSlot v ≡ freeFrom fileSlot fileUsed (v .files) i
 
 abbrev μ-loop : tie.MeasureT-loop
-μ-loop v i₀ i = 128 - i
+μ-loop v i₀ i = fileSlots - i
 
 loop-holds : tie.Need-loop-holds Inv-loop μ-loop
-unfolding freeFile firstAfter
+unfolding freeFileSlot firstAfter
 loop-holds c = refl
 
 mul-f : tie.Need-mul-f Inv-loop μ-loop

@@ -4,21 +4,22 @@ use mathlib.Core.Path.{_≡_, refl, sym, _∙_}
 use native.Mathlib.Omega.{arith}
 use borrow.Author.Needs.{needs}
 use Rattle.lists.specs.Lists.{firstAfter}
+use Rattle.records.specs.Sizes.{linkSlots}
 use Rattle.records.specs.Slots.{linkUsed}
-use Rattle.free_slots.specs.Free.{linkSlot, freeLink}
+use Rattle.free_slots.specs.Free.{linkSlot, freeLinkSlot}
 use Rattle.records.proofs.Lengths.{links-length}
 use Rattle.lists.proofs.Searches.{freeFrom, free-here, free-next, free-none}
 use Rattle.free_slots.proofs.free_link.Statement.{statement}
 use Rattle.free_slots.proofs.free_link.Tie as tie
 
 abbrev Inv-loop : tie.InvT-loop
-Inv-loop v i₀ i = freeLink v ≡ freeFrom linkSlot linkUsed (v .links) i
+Inv-loop v i₀ i = freeLinkSlot v ≡ freeFrom linkSlot linkUsed (v .links) i
 
 abbrev μ-loop : tie.MeasureT-loop
-μ-loop v i₀ i = 192 - i
+μ-loop v i₀ i = linkSlots - i
 
 loop-holds : tie.Need-loop-holds Inv-loop μ-loop
-unfolding freeLink firstAfter
+unfolding freeLinkSlot firstAfter
 loop-holds c = refl
 
 mul-l : tie.Need-mul-l Inv-loop μ-loop

@@ -4,21 +4,22 @@ use mathlib.Core.Path.{_≡_, refl, sym, _∙_}
 use native.Mathlib.Omega.{arith}
 use borrow.Author.Needs.{needs}
 use Rattle.lists.specs.Lists.{firstAfter}
+use Rattle.records.specs.Sizes.{streamSlots}
 use Rattle.records.specs.Slots.{streamUsed}
-use Rattle.free_slots.specs.Free.{streamSlot, freeStream}
+use Rattle.free_slots.specs.Free.{streamSlot, freeStreamSlot}
 use Rattle.records.proofs.Lengths.{streams-length}
 use Rattle.lists.proofs.Searches.{freeFrom, free-here, free-next, free-none}
 use Rattle.free_slots.proofs.free_stream.Statement.{statement}
 use Rattle.free_slots.proofs.free_stream.Tie as tie
 
 abbrev Inv-loop : tie.InvT-loop
-Inv-loop from v i₀ i = freeStream v from ≡ freeFrom streamSlot streamUsed (v .streams) i
+Inv-loop from v i₀ i = freeStreamSlot v from ≡ freeFrom streamSlot streamUsed (v .streams) i
 
 abbrev μ-loop : tie.MeasureT-loop
-μ-loop from v i₀ i = 256 - i
+μ-loop from v i₀ i = streamSlots - i
 
 loop-holds : tie.Need-loop-holds Inv-loop μ-loop
-unfolding freeStream firstAfter
+unfolding freeStreamSlot firstAfter
 loop-holds c = refl
 
 mul-s : tie.Need-mul-s Inv-loop μ-loop

@@ -10,6 +10,7 @@ use borrow.Author.Needs.{needs}
 use Rattle.lists.specs.Lists.{any}
 use Rattle.lists.proofs.First.{any-here, any-next, any-none}
 use Rattle.lists.proofs.Keep.{any-keep}
+use Rattle.records.specs.Sizes.{openSlots}
 use Rattle.records.specs.Slots.{openUsed, zeroOpen}
 use Rattle.open_table.specs.Rows.{anyOnFile, fileHasOpen}
 use Rattle.records.specs.declared.FileNo.{FileNo}
@@ -25,7 +26,7 @@ abbrev Inv-loop : tie.InvT-loop
 Inv-loop f t i₀ i = fileHasOpen t f ≡ any (on f) (drop i (t .rows))
 
 abbrev μ-loop : tie.MeasureT-loop
-μ-loop f t i₀ i = 256 - i
+μ-loop f t i₀ i = openSlots - i
 
 loop-holds : tie.Need-loop-holds Inv-loop μ-loop
 unfolding fileHasOpen anyOnFile

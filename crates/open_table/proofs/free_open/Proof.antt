@@ -4,21 +4,22 @@ use mathlib.Core.Path.{_≡_, refl, sym, _∙_}
 use native.Mathlib.Omega.{arith}
 use borrow.Author.Needs.{needs}
 use Rattle.lists.specs.Lists.{firstAfter}
+use Rattle.records.specs.Sizes.{openSlots}
 use Rattle.records.specs.Slots.{openUsed}
-use Rattle.open_table.specs.Rows.{openSlot, freeOpen}
+use Rattle.open_table.specs.Rows.{openSlot, freeRow}
 use Rattle.records.proofs.Lengths.{rows-length}
 use Rattle.lists.proofs.Searches.{freeFrom, free-here, free-next, free-none}
 use Rattle.open_table.proofs.free_open.Statement.{statement}
 use Rattle.open_table.proofs.free_open.Tie as tie
 
 abbrev Inv-loop : tie.InvT-loop
-Inv-loop t i₀ i = freeOpen t ≡ freeFrom openSlot openUsed (t .rows) i
+Inv-loop t i₀ i = freeRow t ≡ freeFrom openSlot openUsed (t .rows) i
 
 abbrev μ-loop : tie.MeasureT-loop
-μ-loop t i₀ i = 256 - i
+μ-loop t i₀ i = openSlots - i
 
 loop-holds : tie.Need-loop-holds Inv-loop μ-loop
-unfolding freeOpen firstAfter
+unfolding freeRow firstAfter
 loop-holds c = refl
 
 mul-o : tie.Need-mul-o Inv-loop μ-loop

@@ -5,7 +5,7 @@ use lib.ListN.{List·getD-eq-default}
 use borrow.Author.Needs.{needs}
 use Rattle.records.proofs.Lengths.{rows-length}
 use Rattle.records.specs.Slots.{zeroOpen}
-use Rattle.open_table.specs.Rows.{openAt}
+use Rattle.open_table.specs.Rows.{rowAt}
 use Rattle.open_table.proofs.open_at.Statement.{statement}
 use Rattle.open_table.proofs.open_at.Tie as tie
 
@@ -16,11 +16,11 @@ element-copy-out-result : tie.Need-element-copy-out-result
 element-copy-out-result c = search needs
 
 returns : tie.Need-returns
-unfolding openAt
+unfolding rowAt
 returns c = search needs
 
 returns-2 : tie.Need-returns-2
-unfolding openAt
+unfolding rowAt
 returns-2 c =
     let a = c .before in
     let h = rows-length (a .args .t1) _ (a .good .0) in

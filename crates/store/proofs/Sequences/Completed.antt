@@ -1,6 +1,7 @@
 -- How a pending open ends: refused, with SHARING_VIOLATION exactly for a conflict; or accepted, with a consistent
 -- namespace after its change, an open that may join the table, a free slot, and no conflict.
 use Prim.Native.Nat.{ℕ}
+use Rattle.consistency.specs.Good.{GoodTerms}
 use Rattle.lists.proofs.Tests.{not-both}
 use Rattle.lists.specs.Lists.{writes}
 use Rattle.records.proofs.Checked.{Ends, ends-bind, ends-test, ends-weaker, goes, stops}
@@ -8,7 +9,6 @@ use Rattle.records.specs.Checked.{Refusal, _>>=_, _>>_, _>>_, passed, refuseIf}
 use Rattle.records.specs.Constants.{shareRead}
 use Rattle.records.specs.Namespace.{BareStream, Namespace, bareAt, bareUsed}
 use Rattle.records.specs.Numbers.{statusNumber}
-use Rattle.records.specs.Slots.{streamUsed}
 use Rattle.records.specs.Terms.{Terms, termsOf}
 use Rattle.records.specs.declared.CreateAction.the-variants.{Created}
 use Rattle.records.specs.declared.FileNo.{FileNo}
@@ -18,13 +18,12 @@ use Rattle.records.specs.declared.Request.{Request}
 use Rattle.records.specs.declared.Status.the-variants.{FileCorruptError, SharingViolation}
 use Rattle.store.proofs.Sequences.Changes.Attributes.{attributes-kept}
 use Rattle.store.proofs.Sequences.Changes.Placed.{placed-well}
-use Rattle.store.proofs.Sequences.Facts.{AttributesFit, Early, ExistingFits, Grantable, Joins, NamespaceConsistent, Other, PendingFits, PlacedWell, StreamsKept}
+use Rattle.store.proofs.Sequences.Facts.{AttributesFit, Early, ExistingFits, Joins, NamespaceConsistent, Other, PendingFits, PlacedWell, StreamsKept}
 use Rattle.store.proofs.Sequences.Prepared.{prepare-ends}
 use Rattle.store.specs.Complete.{Decision, Placed, View, attributeChange, changed, complete, decide, newOpen, nextHandle, placeExisting, shareOf, withShareRead}
 use Rattle.store.specs.Prepare.{Existing, Pending, ReadSharing, addedIfAlone, asOffered, creating, deniedIfAlone, existing}
 use borrow.Author.Tests.{eq-eqb, not-false}
 use lib.Bits.{or-lt}
-use lib.Dec.{lit<}
 use lib.ListN.{length}
 use mathlib.Core.Bool.{Bool, false, not, true}
 use mathlib.Core.List.{List}
@@ -32,6 +31,7 @@ use mathlib.Core.Logic.{_⊎_, inl, inr}
 use mathlib.Core.Option.{Option, none, some}
 use mathlib.Core.Path.{_∙_, _≡_, ap, refl, subst, sym}
 use native.Mathlib.Omega.{arith}
+use lib.Dec.{lit<}
 
 -- why an accepted open conflicts with none: the check said so, of its terms or of terms that share less; or its stream is
 -- new
@@ -75,13 +75,13 @@ share-ends addedIfAlone true t = goes (inr refl)
 share-ends addedIfAlone false t = goes (inl refl)
 share-ends deniedIfAlone alone t = ends-test _ _ (refl, refl) (λ e. goes (inl refl))
 
-grantable-still : (t s : Terms) → Grantable t → (s ≡ t) ⊎ (s ≡ withShareRead t) → Grantable s
+good-still : (t s : Terms) → GoodTerms t → (s ≡ t) ⊎ (s ≡ withShareRead t) → GoodTerms s
 unfolding withShareRead
-grantable-still t s g (inl e) = subst Grantable (sym e) g
-grantable-still t s g (inr e) =
-    subst Grantable (sym e)
+good-still t s g (inl e) = subst GoodTerms (sym e) g
+good-still t s g (inr e) =
+    subst GoodTerms (sym e)
     (record {
-      nonzero = g .nonzero;
+      grantedNonzero = g .grantedNonzero;
       grantedWithin = g .grantedWithin;
       shareAtMost = omega (arith, or-lt 3 (t .share) shareRead (omega (arith, g .shareAtMost)) (lit< tt));
     })
@@ -108,9 +108,13 @@ module _ (view : View) (ns : Namespace) (ok : NamespaceConsistent ns) (room : vi
         kept = record { sameLength = ap length (q .1); usedKept = λ n u. ap (λ (ss : List BareStream). bareAt ss n) (q .1) };
         joins =
             record {
-              grantable = grantable-still (e .terms) t (fits .grantable) s;
-              streamUsed = ap (λ (ss : List BareStream). bareUsed (at ss)) (q .1) ∙ fits .streamUsed;
-              streamFile = sym (ap (λ (ss : List BareStream). at ss .file) (q .1) ∙ fits .streamFile);
+              good =
+                  record {
+                    namesUsedStream = ap (λ (ss : List BareStream). bareUsed (at ss)) (q .1) ∙ fits .streamUsed;
+                    namesItsFile = sym (ap (λ (ss : List BareStream). at ss .file) (q .1) ∙ fits .streamFile);
+                    terms = good-still (e .terms) t (fits .terms) s;
+                    handleBelow = omega (arith, next);
+                  };
               handle = next;
             };
         room = room;
@@ -118,13 +122,23 @@ module _ (view : View) (ns : Namespace) (ok : NamespaceConsistent ns) (room : vi
       }
 
   -- an accepted open of what it creates
-  created : (p : Placed) → PlacedWell ns p → (t : Terms) → Grantable t
+  created : (p : Placed) → PlacedWell ns p → (t : Terms) → GoodTerms t
       → DecisionFits ns view (record { action = Created; placed = p; terms = t; handle = h })
   created p well t g =
       record {
         after = well .after;
         kept = well .kept;
-        joins = record { grantable = g; streamUsed = well .streamUsed; streamFile = sym (well .streamFile); handle = next };
+        joins =
+            record {
+              good =
+                  record {
+                    namesUsedStream = well .streamUsed;
+                    namesItsFile = sym (well .streamFile);
+                    terms = g;
+                    handleBelow = omega (arith, next);
+                  };
+              handle = next;
+            };
         room = room;
         unopposed = inr (well .wasFree);
       }

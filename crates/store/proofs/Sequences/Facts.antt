@@ -1,39 +1,35 @@
 -- The facts that pass between the parts of the proof: what a consistent namespace is, what a pending open may rely on, and
 -- what its placing leaves.
-use Prim.Native.Nat.{ℕ, suc, _≤_, _<_}
-use mathlib.Core.Path.{_≡_}
-use mathlib.Core.Bool.{Bool, true, false}
-use mathlib.Core.List.{List, []}
-use mathlib.Core.Option.{Option, none, some}
-use mathlib.Core.Logic.{_≢_}
-use lib.ListN.{length}
-use Rattle.bits.specs.Bits.{within, has}
+use Prim.Native.Nat.{suc, ℕ}
+use Rattle.consistency.specs.Consistent.{Consistent, FilesConsistent, GoodOpenOf, LinksConsistent, StreamsConsistent}
+use Rattle.consistency.specs.Good.{GoodAttributes, GoodFile, GoodTerms}
 use Rattle.lists.specs.Lists.{any}
-use Rattle.records.specs.Sizes.{fileNameLimit, streamNameLimit, streamSlots}
-use Rattle.records.specs.Constants.{allAccess, directory}
-use Rattle.records.specs.Slots.{isData, isDirectory, fileUsed}
-use Rattle.tables.specs.Tables.{fileAt}
-use Rattle.records.specs.Namespace.{Namespace, BareStream, bareUsed, bareAt, namespace}
-use lib.Dec.{eqb}
-use Rattle.records.specs.Numbers.{statusNumber}
-use Rattle.records.specs.Terms.{Terms, termsOf}
-use Rattle.records.specs.Checked.{Refusal}
-use Rattle.records.specs.declared.Status.{Status}
-use Rattle.records.specs.declared.Status.the-variants.{FileCorruptError, SharingViolation}
-use Rattle.paths.specs.Paths.{Leaf}
-use Rattle.records.specs.declared.FileNo.{FileNo}
-use Rattle.records.specs.declared.StreamNo.{StreamNo}
-use Rattle.records.specs.declared.File.{File}
-use Rattle.records.specs.declared.Open.{Open}
-use Rattle.names.specs.Names.{validFileName, validStreamName}
 use Rattle.lookup.specs.Lookup.{linkMatches}
-use Rattle.stream_lookup.specs.StreamLookup.{streamMatches}
-use Rattle.consistency.specs.Relations.{validMasks}
-use Rattle.consistency.specs.Consistent.{FilesConsistent, LinksConsistent, StreamsConsistent, Consistent}
-use Rattle.store.specs.Prepare.{Existing, Creation, newStream, newFile, Pending, existing, creating}
-use Rattle.store.specs.Complete.{Placed, changed}
-use Rattle.records.specs.declared.Volume.{Volume}
+use Rattle.names.specs.Names.{validFileName, validStreamName}
+use Rattle.paths.specs.Paths.{Leaf}
+use Rattle.records.specs.Checked.{Refusal}
+use Rattle.records.specs.Namespace.{BareStream, Namespace, bareAt, bareUsed, namespace}
+use Rattle.records.specs.Numbers.{statusNumber}
+use Rattle.records.specs.Sizes.{fileNameLimit, streamNameLimit}
+use Rattle.records.specs.Slots.{fileUsed, isData, isDirectory}
+use Rattle.records.specs.declared.File.{File}
+use Rattle.records.specs.declared.FileNo.{FileNo}
+use Rattle.records.specs.declared.Open.{Open}
 use Rattle.records.specs.declared.OpenTable.{OpenTable}
+use Rattle.records.specs.declared.Status.the-variants.{FileCorruptError, SharingViolation}
+use Rattle.records.specs.declared.Status.{Status}
+use Rattle.records.specs.declared.StreamNo.{StreamNo}
+use Rattle.records.specs.declared.Volume.{Volume}
+use Rattle.store.specs.Complete.{Placed, changed}
+use Rattle.store.specs.Prepare.{Creation, Existing, Pending, creating, existing, newFile, newStream}
+use Rattle.stream_lookup.specs.StreamLookup.{streamMatches}
+use Rattle.tables.specs.Tables.{fileAt}
+use lib.Dec.{eqb}
+use lib.ListN.{length}
+use mathlib.Core.Bool.{Bool, false, true}
+use mathlib.Core.List.{List, []}
+use mathlib.Core.Option.{some}
+use mathlib.Core.Path.{_≡_}
 
 -- the groups of consistency that do not look at the opens
 pub record NamespaceConsistent (ns : Namespace) : Type 0 where
@@ -44,8 +40,7 @@ pub record NamespaceConsistent (ns : Namespace) : Type 0 where
 -- attributes that a data file may take
 pub record AttributesFit (ns : Namespace) (f : FileNo) (a : ℕ) : Type 0 where
   pub dataFile : isData (fileAt (ns .files) f .«file_type») ≡ true
-  pub attributesWithin : within a 0x3137 ≡ true
-  pub noDirectoryBit : has a directory ≡ false
+  pub good : GoodAttributes false a
 
 -- a stream that a data file may gain
 pub record StreamFits (ns : Namespace) (f : FileNo) (a : ℕ) (name : List ℕ) : Type 0 where
@@ -62,31 +57,23 @@ pub record FileFits (ns : Namespace) (dir : FileNo) (leaf : Leaf) (file : File) 
   pub nameNew : any (linkMatches fold dir (leaf .file)) (ns .links) ≡ false
   pub streamValid : validStreamName streamNameLimit (leaf .stream) ≡ true
   pub used : fileUsed file ≡ true
-  pub attributesWithin : within (file .attributes) 0x3137 ≡ true
-  pub directoryBit : has (file .attributes) directory ≡ isDirectory (file .«file_type»)
-  pub masksValid : validMasks (file .masks) ≡ true
+  pub good : GoodFile file
   pub directoryUnnamed : isDirectory (file .«file_type») ≡ true → leaf .stream ≡ []
 
 abbrev pub CreationFits : Namespace → Creation → Type 0
 CreationFits ns (newStream f a name) = StreamFits ns f a name
 CreationFits ns (newFile dir leaf file) = FileFits ns dir leaf file
 
--- terms that an open may be stored with
-pub record Grantable (t : Terms) : Type 0 where
-  pub nonzero : t .granted ≢ 0
-  pub grantedWithin : within (t .granted) allAccess ≡ true
-  pub shareAtMost : t .share ≤ 7
-
 -- an open of a stream that is there
 pub record ExistingFits (ns : Namespace) (e : Existing) : Type 0 where
-  pub grantable : Grantable (e .terms)
+  pub terms : GoodTerms (e .terms)
   pub streamUsed : bareUsed (bareAt (ns .streams) (e .stream)) ≡ true
   pub streamFile : bareAt (ns .streams) (e .stream) .file ≡ e .file
   pub attributes : (a : ℕ) → e .attributes ≡ some a → AttributesFit ns (e .file) a
 
 abbrev pub PendingFits : Namespace → Pending → Type 0
 PendingFits ns (existing e) = ExistingFits ns e
-PendingFits ns (creating c terms) = CreationFits ns c × Grantable terms
+PendingFits ns (creating c terms) = CreationFits ns c × GoodTerms terms
 
 -- a refusal with another status
 abbrev pub Other : Status → Refusal → Type 0
@@ -109,11 +96,9 @@ pub record PlacedWell (ns : Namespace) (p : Placed) : Type 0 where
   pub streamUsed : bareUsed (bareAt (changed (p .change) ns .streams) (p .stream)) ≡ true
   pub streamFile : bareAt (changed (p .change) ns .streams) (p .stream) .file ≡ p .file
 
--- an open that may join the opens of a table
+-- an open that may join the opens of a table, with the next handle
 pub record Joins (ss : List BareStream) (next : ℕ) (o : Open) : Type 0 where
-  pub grantable : Grantable (termsOf o)
-  pub streamUsed : bareUsed (bareAt ss (o .stream)) ≡ true
-  pub streamFile : o .file ≡ bareAt ss (o .stream) .file
+  pub good : GoodOpenOf ss (suc next) o
   pub handle : o .handle .0 ≡ next
 
 -- the groups of consistency that do not look at the opens, of consistent tables

@@ -1,33 +1,34 @@
 -- What the access rule grants on a used file may be stored: it is not zero, and lies within 0x1F01FF.
 use Prim.Native.Nat.{ℕ}
-use mathlib.Core.Path.{_≡_, refl, sym, _∙_}
-use mathlib.Core.Bool.{Bool, true, false, cond, not, _&&_, _||_}
-use mathlib.Core.Logic.{_≢_}
+use Rattle.access.specs.Access.{accessFrom, accessRule, checkedAccess, effective, need}
+use Rattle.access.specs.declared.Access.the-variants.{Denied, Granted}
+use Rattle.bits.proofs.Sets.{within-less, within-self, within-trans, within-zero, without-none}
+use Rattle.bits.specs.Bits.{has, within, without}
+use Rattle.consistency.proofs.Derived.{file-good}
+use Rattle.consistency.specs.Good.{GoodTerms}
+use Rattle.consistency.specs.Relations.{validMasks}
+use Rattle.lists.proofs.All.{all-slots}
+use Rattle.lists.proofs.Tests.{and-right, or-neither}
+use Rattle.lists.specs.Lists.{all}
+use Rattle.records.proofs.Checked.{Ends, ends-bind, goes, stops}
+use Rattle.records.specs.Constants.{allAccess, maximumAllowed, readOnly}
+use Rattle.records.specs.Namespace.{Namespace}
+use Rattle.records.specs.Numbers.{statusNumber}
+use Rattle.records.specs.Sizes.{accounts}
+use Rattle.records.specs.Slots.{fileUsed, isData, maskOf}
+use Rattle.records.specs.declared.File.{File}
+use Rattle.records.specs.declared.FileNo.{FileNo}
+use Rattle.records.specs.declared.Request.{Request}
+use Rattle.store.proofs.Sequences.Facts.{Early, NamespaceConsistent}
+use Rattle.store.proofs.Sequences.Requested.{RequestFits}
+use Rattle.store.specs.Prepare.{grant}
+use Rattle.tables.specs.Tables.{fileAt}
+use borrow.Author.Tests.{eqb-false, not-false}
 use lib.Dec.{eqb}
 use lib.ListN.{length}
-use borrow.Author.Tests.{eqb-false, not-false}
-use Rattle.bits.specs.Bits.{within, has, without}
-use Rattle.bits.proofs.Sets.{within-trans, within-less, within-zero, within-self, without-none}
-use Rattle.lists.specs.Lists.{all}
-use Rattle.lists.proofs.Tests.{and-right, or-neither}
-use Rattle.lists.proofs.All.{all-slots}
-use Rattle.records.specs.Sizes.{accounts}
-use Rattle.records.specs.Constants.{allAccess, readOnly, maximumAllowed}
-use Rattle.records.specs.Numbers.{statusNumber}
-use Rattle.records.specs.Slots.{isData, maskOf, fileUsed}
-use Rattle.tables.specs.Tables.{fileAt}
-use Rattle.records.specs.Namespace.{Namespace}
-use Rattle.records.specs.declared.FileNo.{FileNo}
-use Rattle.records.specs.declared.File.{File}
-use Rattle.records.specs.declared.Request.{Request}
-use Rattle.records.proofs.Checked.{Ends, stops, goes, ends-bind}
-use Rattle.access.specs.Access.{effective, need, accessFrom, accessRule, checkedAccess}
-use Rattle.access.specs.declared.Access.{Access}
-use Rattle.access.specs.declared.Access.the-variants.{Granted, Denied}
-use Rattle.consistency.specs.Relations.{validMasks}
-use Rattle.store.specs.Prepare.{grant}
-use Rattle.store.proofs.Sequences.Facts.{NamespaceConsistent, Grantable, Early}
-use Rattle.store.proofs.Sequences.Requested.{RequestFits}
+use mathlib.Core.Bool.{Bool, _&&_, _||_, cond, false, not, true}
+use mathlib.Core.Logic.{_≢_}
+use mathlib.Core.Path.{_∙_, _≡_, refl, sym}
 
 mask-within : (f : File) (account : ℕ) → validMasks (f .masks) ≡ true → within (maskOf f account) allAccess ≡ true
 unfolding validMasks maskOf
@@ -67,7 +68,7 @@ from-ends mask access nz = go (not (within (need access) mask) || eqb mask 0) re
         (kept (has access maximumAllowed) refl (not-false (within (need access) mask) (n .0)) (eqb-false mask 0 (n .1)))
 
 pub grant-ends : (ns : Namespace) (r : Request) (f : FileNo) (access : ℕ) → NamespaceConsistent ns → RequestFits r
-    → fileUsed (fileAt (ns .files) f) ≡ true → access ≢ 0 → Ends Early Grantable (grant ns r f access)
+    → fileUsed (fileAt (ns .files) f) ≡ true → access ≢ 0 → Ends Early GoodTerms (grant ns r f access)
 unfolding grant accessRule
 grant-ends ns r f access ok fits used nz =
     let mask = effective (fileAt (ns .files) f) (r .account) in
@@ -75,9 +76,9 @@ grant-ends ns r f access ok fits used nz =
     (λ g q.
     goes
     (record {
-      nonzero = q .0;
+      grantedNonzero = q .0;
       grantedWithin =
           within-trans g mask allAccess (q .1)
-          (effective-within (fileAt (ns .files) f) (r .account) (ok .files .masksWithin f used));
+          (effective-within (fileAt (ns .files) f) (r .account) (file-good (ok .files) f used .masksWithin));
       shareAtMost = fits .shareAtMost;
     }))

@@ -1,39 +1,40 @@
 -- What the searches find in a consistent namespace: where a path leads, to a used file or to a directory without the
 -- name, and which stream of a file a name is.
-use Prim.Native.Nat.{ℕ, zero, suc}
-use native.Mathlib.Omega.{arith}
-use mathlib.Core.Path.{_≡_, refl, sym, _∙_, ap}
-use mathlib.Core.Bool.{Bool, true, false, not, _&&_, false≢true}
-use mathlib.Core.List.{List, [], _∷_, map}
-use mathlib.Core.Option.{Option, none, some}
-use lib.Dec.{eqb, eqb·suc-zero}
-use lib.ListN.{getD}
-use borrow.Author.Tests.{eqb-true}
-use Rattle.lists.specs.Lists.{any, first, isEmpty, same}
+use Prim.Native.Nat.{suc, zero, ℕ}
+use Rattle.consistency.proofs.Numbered.{directory-used, same-file}
+use Rattle.consistency.specs.Relations.{streamOf, unnamedOf}
+use Rattle.lists.proofs.Find.{first-found}
+use Rattle.lists.proofs.Keep.{any-count, any-same}
 use Rattle.lists.proofs.Tests.{and-left, and-right}
-use Rattle.lists.proofs.Find.{first-found, first-none}
-use Rattle.lists.proofs.Keep.{any-same, any-count}
-use Rattle.records.specs.Sizes.{fileNameLimit}
+use Rattle.lists.specs.Lists.{any, first, isEmpty, same}
+use Rattle.lookup.specs.Lookup.{Place, descend, findLink, found, foundRoot, linkMatches, linkNumber, locate, locateLeaf, missing, placeIn, stepInto}
+use Rattle.names.specs.Names.{validFileName}
+use Rattle.paths.proofs.Parsed.{LeafFits}
+use Rattle.lists.proofs.Find.{first-none}
+use Rattle.paths.specs.Paths.{Leaf, Path}
+use Rattle.records.proofs.Checked.{Ends, ends-bind, ends-cond, goes, stops}
+use Rattle.records.specs.Checked.{_>>=_, passed, someOr}
+use Rattle.records.specs.Namespace.{BareStream, Namespace, bareAt, bareUsed, zeroBare}
 use Rattle.records.specs.Numbers.{statusNumber}
-use Rattle.records.specs.Slots.{root, isDirectory, zeroLink, fileUsed, linkUsed}
-use Rattle.tables.specs.Tables.{fileAt, linkAt}
-use Rattle.records.specs.Namespace.{Namespace, BareStream, zeroBare, bareUsed, bareAt}
-use Rattle.records.specs.Checked.{passed, _>>=_, someOr}
-use Rattle.records.specs.declared.Status.the-variants.{FileCorruptError}
+use Rattle.records.specs.Sizes.{fileNameLimit}
+use Rattle.records.specs.Slots.{fileUsed, isDirectory, linkUsed, root, zeroLink}
 use Rattle.records.specs.declared.FileNo.{FileNo}
 use Rattle.records.specs.declared.LinkNo.{LinkNo}
+use Rattle.records.specs.declared.Status.the-variants.{FileCorruptError}
 use Rattle.records.specs.declared.StreamNo.{StreamNo}
-use Rattle.records.proofs.Checked.{Ends, stops, goes, ends-bind, ends-cond}
-use Rattle.units.specs.Units.{folded, equalUnits}
-use Rattle.names.specs.Names.{validFileName}
 use Rattle.stored_names.specs.StoredNames.{units}
-use Rattle.paths.specs.Paths.{Leaf, Path}
-use Rattle.paths.proofs.Parsed.{LeafFits}
-use Rattle.consistency.specs.Relations.{streamOf, unnamedOf}
-use Rattle.consistency.proofs.Slots.{directory-used, same-file}
-use Rattle.lookup.specs.Lookup.{linkMatches, linkNumber, findLink, stepInto, descend, Place, found, missing, foundRoot, placeIn, locateLeaf, locate}
-use Rattle.stream_lookup.specs.StreamLookup.{streamMatches, streamNumber, findStream}
-use Rattle.store.proofs.Sequences.Facts.{NamespaceConsistent, Early}
+use Rattle.store.proofs.Sequences.Facts.{Early, NamespaceConsistent}
+use Rattle.stream_lookup.specs.StreamLookup.{findStream, streamMatches, streamNumber}
+use Rattle.tables.specs.Tables.{fileAt, linkAt}
+use Rattle.units.specs.Units.{equalUnits, folded}
+use borrow.Author.Tests.{eqb-true}
+use lib.Dec.{eqb, eqb·suc-zero}
+use lib.ListN.{getD}
+use mathlib.Core.Bool.{Bool, _&&_, false, false≢true, not, true}
+use mathlib.Core.List.{List, [], _∷_, map}
+use mathlib.Core.Option.{Option, none, some}
+use mathlib.Core.Path.{_∙_, _≡_, ap, refl, sym}
+use native.Mathlib.Omega.{arith}
 
 -- a name that a directory may gain
 pub record MissingFits (ns : Namespace) (fold wantsDirectory : Bool) (dir : FileNo) (leaf : Leaf) : Type 0 where
@@ -75,7 +76,7 @@ module _ (ns : Namespace) (fold wd : Bool) (ok : NamespaceConsistent ns) where
 
   leaf-placed : (dir : FileNo) (leaf : Leaf) → isDirectory (fileAt (ns .files) dir .«file_type») ≡ true
       → LeafFits wd leaf → isEmpty (leaf .file) ≡ false → PlaceFits ns fold wd (locateLeaf ns fold dir leaf)
-  unfolding locateLeaf findLink placeIn linkNumber linkMatches linkUsed linkAt
+  unfolding locateLeaf findLink placeIn linkNumber linkMatches linkUsed linkAt fileUsed
   leaf-placed dir leaf i fits named = go (first (linkMatches fold dir (leaf .file)) (ns .links)) refl
     where
       go : (o : Option ℕ) → first (linkMatches fold dir (leaf .file)) (ns .links) ≡ o
@@ -89,10 +90,11 @@ module _ (ns : Namespace) (fold wd : Bool) (ok : NamespaceConsistent ns) where
           }
       go (some n) e =
           let l = getD (ns .links) n zeroLink in
-          ok .links .namesUsedFile (record { 0 = n })
+          ok .links .slots .usedGood n
           (matching-used fold (l .name) (leaf .file) named
           (and-right (eqb (l .parent .0) (dir .0)) (equalUnits fold (units (l .name)) (leaf .file))
           (first-found (linkMatches fold dir (leaf .file)) zeroLink (ns .links) n e .passes)))
+          .namesUsedFile
 
   pub located-ends : (path : Path) → LeafFits wd (path .leaf) → Ends Early (PlaceFits ns fold wd) (locate ns fold path)
   unfolding locate fileUsed

@@ -1,45 +1,47 @@
 -- The steps before the sharing check, followed once. On a consistent namespace none of them refuses with
 -- FILE_CORRUPT_ERROR or SHARING_VIOLATION, and the pending open that they leave fits the namespace.
-use Prim.Native.Nat.{ℕ, _≤_}
-use mathlib.Core.Path.{_≡_, refl, _∙_}
-use mathlib.Core.Bool.{Bool, true, false, cond, not, _&&_, _||_, false≢true, true≢false}
-use mathlib.Core.List.{List, [], _∷_}
-use mathlib.Core.Option.{Option, none, some, Option·some-injective}
-use mathlib.Core.Logic.{_≢_}
+use Prim.Native.Nat.{_≤_, ℕ}
+use Rattle.bits.proofs.Sets.{within-le, within-or-l}
+use Rattle.consistency.proofs.Derived.{file-good}
+use Rattle.consistency.proofs.Numbered.{directory-used}
+use Rattle.consistency.specs.Good.{GoodAttributes}
+use Rattle.lists.proofs.Tests.{none≢some}
+use Rattle.lists.specs.Lists.{any, isEmpty, oneOf}
+use Rattle.lookup.specs.Lookup.{Place, Resolved, found, missing}
+use Rattle.names.specs.Names.{validStreamName}
+use Rattle.paths.proofs.Parsed.{LeafFits, parsed-ends}
+use Rattle.paths.specs.Paths.{Leaf}
+use Rattle.records.proofs.Checked.{Ends, ends-bind, ends-cond, ends-test, ends-weaker, goes, went}
+use Rattle.records.specs.Checked.{Checked, _>>_, passed}
+use Rattle.records.specs.Constants.{create, openIf, openOnly, writeData}
+use Rattle.records.specs.Namespace.{Namespace}
+use Rattle.records.specs.Numbers.{statusNumber}
+use Rattle.records.specs.Sizes.{streamNameLimit}
+use Rattle.records.specs.Slots.{fileUsed, isData, isDirectory, isUsed, streamUsed}
+use Rattle.records.specs.declared.FileNo.{FileNo}
+use Rattle.records.specs.declared.FileType.{FileType}
+use Rattle.records.specs.declared.Request.{Request}
+use Rattle.records.specs.declared.Status.the-variants.{AccessDenied, FileIsADirectory, NotADirectory, ObjectNameCollision}
+use Rattle.records.specs.declared.Status.{Status}
+use Rattle.records.specs.declared.StreamNo.{StreamNo}
+use Rattle.store.proofs.Sequences.Facts.{AttributesFit, Early, NamespaceConsistent, PendingFits}
+use Rattle.store.proofs.Sequences.Granted.{grant-ends}
+use Rattle.store.proofs.Sequences.Located.{MissingFits, PlaceFits, SearchFits, StreamThere, located-ends, searched, unnamed-ends}
+use Rattle.store.proofs.Sequences.Requested.{RequestFits, archived, attributes-new, granted-new, replaced, requested}
+use Rattle.store.specs.Prepare.{Pending, ReadSharing, admit, admitFile, admitOpen, admitReplace, admitStream, asOffered, fileNew, gained, newType, prepare, replacement}
+use Rattle.store.specs.Request.{wantsDirectory, wantsFile}
+use Rattle.store.specs.Target.{Target, existingDirectory, existingStream, missingFile, missingStream, target, targetAt, targetData, targetDirectory, targetFound, targetNew, wrongType}
+use Rattle.stream_lookup.specs.StreamLookup.{streamMatches, findStream}
+use Rattle.tables.specs.Tables.{fileAt}
 use lib.Bits.{bitOr}
 use lib.Dec.{eqb}
+use mathlib.Core.Bool.{Bool, _&&_, cond, false, false≢true, true, true≢false}
+use mathlib.Core.List.{List, [], _∷_}
+use mathlib.Core.Logic.{_≢_}
+use mathlib.Core.Option.{Option, Option·some-injective, none, some}
+use mathlib.Core.Path.{_≡_, refl, subst}
 use native.Mathlib.Omega.{arith}
-use Rattle.bits.proofs.Sets.{within-or-l, within-le}
-use Rattle.lists.specs.Lists.{any, isEmpty, oneOf}
-use Rattle.lists.proofs.Tests.{none≢some}
-use Rattle.records.specs.Sizes.{streamNameLimit}
-use Rattle.records.specs.Constants.{openOnly, create, openIf, writeData}
-use Rattle.records.specs.Numbers.{statusNumber}
-use Rattle.records.specs.Slots.{isUsed, isData, isDirectory, fileUsed}
-use Rattle.tables.specs.Tables.{fileAt}
-use Rattle.records.specs.Namespace.{Namespace}
-use Rattle.records.specs.Checked.{Checked, passed, _>>=_, _>>_}
-use Rattle.records.specs.declared.Status.{Status}
-use Rattle.records.specs.declared.Status.the-variants.{AccessDenied, ObjectNameCollision, FileIsADirectory, NotADirectory}
-use Rattle.records.specs.declared.FileType.{FileType}
 use Rattle.records.specs.declared.FileType.the-variants.{Unused, Data, Directory}
-use Rattle.records.specs.declared.FileNo.{FileNo}
-use Rattle.records.specs.declared.StreamNo.{StreamNo}
-use Rattle.records.specs.declared.Request.{Request}
-use Rattle.records.proofs.Checked.{Ends, goes, went, ends-bind, ends-test, ends-cond, ends-weaker}
-use Rattle.names.specs.Names.{validStreamName}
-use Rattle.paths.specs.Paths.{Leaf}
-use Rattle.paths.proofs.Parsed.{LeafFits, parsed-ends}
-use Rattle.lookup.specs.Lookup.{Resolved, Place, found, missing}
-use Rattle.stream_lookup.specs.StreamLookup.{streamMatches, findStream}
-use Rattle.consistency.proofs.Slots.{directory-used}
-use Rattle.store.specs.Request.{wantsDirectory, wantsFile}
-use Rattle.store.specs.Target.{Target, existingDirectory, existingStream, missingStream, missingFile, targetNew, wrongType, targetDirectory, targetData, targetFound, targetAt, target}
-use Rattle.store.specs.Prepare.{ReadSharing, asOffered, Pending, newType, fileNew, admitFile, admitOpen, gained, replacement, admitReplace, admitStream, admit, prepare}
-use Rattle.store.proofs.Sequences.Facts.{NamespaceConsistent, AttributesFit, PendingFits, Early}
-use Rattle.store.proofs.Sequences.Located.{MissingFits, PlaceFits, located-ends, StreamThere, SearchFits, searched, unnamed-ends}
-use Rattle.store.proofs.Sequences.Granted.{grant-ends}
-use Rattle.store.proofs.Sequences.Requested.{RequestFits, requested, granted-new, Attributes, replaced, archived, attributes-new}
 
 -- a status by a test
 early-cond : (b : Bool) (x y : Status) → Early (record { status = x }) → Early (record { status = y })
@@ -129,13 +131,12 @@ used-data Unused u d = u
 used-data Data u d = refl
 used-data Directory u d = absurd (true≢false d)
 
-data-attributes : (ns : Namespace) (f : FileNo) (a : ℕ) → DataFile ns f → Attributes false a → AttributesFit ns f a
+data-attributes : (ns : Namespace) (f : FileNo) (a : ℕ) → DataFile ns f → GoodAttributes false a → AttributesFit ns f a
 unfolding fileUsed
 data-attributes ns f a dataFile h =
     record {
       dataFile = used-data (fileAt (ns .files) f .«file_type») (dataFile .used) (dataFile .noDirectory);
-      attributesWithin = h .inRange;
-      noDirectoryBit = h .directoryBit;
+      good = h;
     }
 
 -- access that gains bits stays nonzero
@@ -152,7 +153,7 @@ module _ (ns : Namespace) (r : Request) (ok : NamespaceConsistent ns) (fits : Re
       (λ terms g.
       goes
       (record {
-        grantable = g;
+        terms = g;
         streamUsed = there .streamUsed;
         streamFile = there .streamFile;
         attributes = λ a e. absurd (none≢some e);
@@ -176,7 +177,7 @@ module _ (ns : Namespace) (r : Request) (ok : NamespaceConsistent ns) (fits : Re
       (λ terms g.
       goes
       (record {
-        grantable = g;
+        terms = g;
         streamUsed = there .streamUsed;
         streamFile = there .streamFile;
         attributes = λ a e. replacement-fits f unnamed a dataFile e;
@@ -187,11 +188,9 @@ module _ (ns : Namespace) (r : Request) (ok : NamespaceConsistent ns) (fits : Re
       → Ends Early (PendingFits ns) (admitStream ns r f leaf)
   unfolding admitStream statusNumber
   stream-ends f leaf dataFile new =
-      let old : Attributes false (fileAt (ns .files) f .attributes) =
-      record {
-        inRange = ok .files .attributesWithin f (dataFile .used);
-        directoryBit = ok .files .directoryBit f (dataFile .used) ∙ dataFile .noDirectory;
-      } in
+      let old =
+      subst (λ (b : Bool). GoodAttributes b (fileAt (ns .files) f .attributes)) (dataFile .noDirectory)
+      (file-good (ok .files) f (dataFile .used) .attributes) in
       ends-bind
       (grant-ends ns r f (bitOr (r .access) writeData) ok fits (dataFile .used)
       (gains (r .access) writeData (fits .accessNonzero)))
@@ -214,7 +213,6 @@ module _ (ns : Namespace) (r : Request) (ok : NamespaceConsistent ns) (fits : Re
   unfolding admitFile fileNew fileUsed newType isUsed isDirectory statusNumber
   file-ends dir leaf new =
       let parent = fileAt (ns .files) dir in
-      let attributes = attributes-new r parent in
       ends-test _ _ (refl, refl)
       (λ t.
       ends-test _ _ (refl, refl)
@@ -227,9 +225,11 @@ module _ (ns : Namespace) (r : Request) (ok : NamespaceConsistent ns) (fits : Re
           nameNew = new .nameNew;
           streamValid = new .leafFits .streamValid;
           used = type-used (wantsDirectory r);
-          attributesWithin = attributes .inRange;
-          directoryBit = attributes .directoryBit;
-          masksValid = ok .files .masksWithin dir (directory-used (parent .«file_type») (new .parent));
+          good =
+              record {
+                attributes = attributes-new r parent;
+                masksWithin = file-good (ok .files) dir (directory-used (parent .«file_type») (new .parent)) .masksWithin;
+              };
           directoryUnnamed = λ e. new .leafFits .unnamed (no-colon (wantsDirectory r) (new .leafFits .noColon) e);
         },
         granted-new r fits,

@@ -1,25 +1,25 @@
 -- What steps 1 and 2 leave of a request's numbers, and the numbers that steps 9 and 11 make of them.
-use Prim.Native.Nat.{ℕ, _≤_}
-use mathlib.Core.Path.{_≡_, refl, sym, _∙_, ap, ap₂}
-use mathlib.Core.Bool.{Bool, true, false, cond, not, _&&_, _||_}
-use mathlib.Core.List.{List, [], _∷_}
-use mathlib.Core.Logic.{_≢_}
+use Prim.Native.Nat.{_≤_, ℕ}
+use Rattle.bits.proofs.Sets.{has-iff-false, has-meets, has-or, has-subset, within-and-r, within-iff, within-less, within-mono, within-or, within-self, within-split, without-clears}
+use Rattle.bits.specs.Bits.{has, within, without}
+use Rattle.consistency.specs.Good.{GoodAttributes, GoodTerms}
+use Rattle.lists.proofs.Tests.{or-neither}
+use Rattle.lists.specs.Lists.{oneOf}
+use Rattle.records.specs.Constants.{allAccess, appendData, archive, directory, fileAttributes, maximumAllowed, notContentIndexed, overwrite, overwriteIf, supersede}
+use Rattle.records.specs.Slots.{isDirectory}
+use Rattle.records.specs.declared.File.{File}
+use Rattle.records.specs.declared.FileType.the-variants.{Data, Directory}
+use Rattle.records.specs.declared.Request.{Request}
+use Rattle.store.specs.Prepare.{attributesNew, grantedNew, newType}
+use Rattle.store.specs.Request.{badAccess, badParameters, wantsDirectory}
+use borrow.Author.Tests.{eqb-false, not-false, ltb-false}
 use lib.Bits.{bitAnd, bitOr}
 use lib.Dec.{eqb, ltb}
-use borrow.Author.Tests.{eqb-false, not-false, ltb-false}
+use mathlib.Core.Bool.{Bool, _&&_, _||_, cond, false, not, true}
+use mathlib.Core.List.{[], _∷_}
+use mathlib.Core.Logic.{_≢_}
+use mathlib.Core.Path.{_∙_, _≡_, ap₂, refl}
 use native.Mathlib.Omega.{arith}
-use Rattle.bits.specs.Bits.{within, has, without}
-use Rattle.bits.proofs.Sets.{within-iff, within-trans, within-mono, within-less, within-or, within-and-l, within-and-r, within-split, within-self, has-or, has-subset, has-iff-false, has-meets, without-clears}
-use Rattle.lists.specs.Lists.{oneOf}
-use Rattle.lists.proofs.Tests.{or-neither}
-use Rattle.records.specs.Constants.{supersede, overwrite, overwriteIf, appendData, directory, archive, notContentIndexed, allAccess, maximumAllowed}
-use Rattle.records.specs.Slots.{isDirectory}
-use Rattle.records.specs.declared.FileType.the-variants.{Data, Directory}
-use Rattle.records.specs.declared.File.{File}
-use Rattle.records.specs.declared.Request.{Request}
-use Rattle.store.specs.Request.{wantsDirectory, badParameters, badAccess}
-use Rattle.store.specs.Prepare.{grantedNew, newType, attributesNew}
-use Rattle.store.proofs.Sequences.Facts.{Grantable}
 
 pub record RequestFits (r : Request) : Type 0 where
   pub accessNonzero : r .access ≢ 0
@@ -59,27 +59,22 @@ requested r p q =
     }
 
 -- step 9's granted access
-pub granted-new : (r : Request) → RequestFits r → Grantable (record { granted = grantedNew (r .access); share = r .share })
+pub granted-new : (r : Request) → RequestFits r → GoodTerms (record { granted = grantedNew (r .access); share = r .share })
 unfolding grantedNew
 granted-new r fits = go (has (r .access) maximumAllowed) refl
   where
     go : (b : Bool) → has (r .access) maximumAllowed ≡ b
-        → Grantable (record { granted = cond b allAccess (r .access); share = r .share })
-    go true e = record { nonzero = λ z. omega arith; grantedWithin = within-self allAccess; shareAtMost = fits .shareAtMost }
+        → GoodTerms (record { granted = cond b allAccess (r .access); share = r .share })
+    go true e = record { grantedNonzero = λ z. omega arith; grantedWithin = within-self allAccess; shareAtMost = fits .shareAtMost }
     go false e =
         record {
-          nonzero = fits .accessNonzero;
+          grantedNonzero = fits .accessNonzero;
           grantedWithin = within-split (r .access) allAccess maximumAllowed (fits .accessWithin) e;
           shareAtMost = fits .shareAtMost;
         }
 
--- the attributes of steps 9 and 11: within 0x3137, and with 0x10 exactly for a directory
-pub record Attributes (isDir : Bool) (a : ℕ) : Type 0 where
-  pub inRange : within a 0x3137 ≡ true
-  pub directoryBit : has a directory ≡ isDir
-
 -- step 11: asked plus 0x20 minus 0x2080
-pub replaced : (r : Request) → RequestFits r → Attributes false (without (bitOr (r .attributes) archive) 0x2080)
+pub replaced : (r : Request) → RequestFits r → GoodAttributes false (without (bitOr (r .attributes) archive) 0x2080)
 replaced r fits =
     let a = bitOr (r .attributes) archive in
     let w : within a 0x31A7 ≡ true =
@@ -87,40 +82,40 @@ replaced r fits =
     let n : within (without a 0x2080) 0x1127 ≡ true =
     within-split (without a 0x2080) 0x1127 0x2080 (within-less a 0x31A7 0x2080 w) (without-clears a 0x2080) in
     record {
-      inRange = within-mono (without a 0x2080) 0x1127 0x3137 n refl;
+      attributesWithin = within-mono (without a 0x2080) 0x1127 fileAttributes n refl;
       directoryBit = has-subset (without a 0x2080) 0x1127 directory n (has-iff-false 0x1127 directory .1 refl);
     }
 
 -- a union of attributes
-joined : (x y : ℕ) (c d : Bool) → Attributes c x → Attributes d y → Attributes (c || d) (bitOr x y)
+joined : (x y : ℕ) (c d : Bool) → GoodAttributes c x → GoodAttributes d y → GoodAttributes (c || d) (bitOr x y)
 joined x y c d h k =
     record {
-      inRange = within-or x y 0x3137 (h .inRange) (k .inRange);
+      attributesWithin = within-or x y fileAttributes (h .attributesWithin) (k .attributesWithin);
       directoryBit = has-or x y directory ∙ ap₂ (λ (p q : Bool). p || q) (h .directoryBit) (k .directoryBit);
     }
 
 -- a part of a mask without 0x10
-part-of : (x m : ℕ) → within x m ≡ true → bitAnd m 0x3137 ≡ m → bitAnd m directory ≡ 0 → Attributes false x
+part-of : (x m : ℕ) → within x m ≡ true → bitAnd m fileAttributes ≡ m → bitAnd m directory ≡ 0 → GoodAttributes false x
 part-of x m w i z =
     record {
-      inRange = within-mono x m 0x3137 w i;
+      attributesWithin = within-mono x m fileAttributes w i;
       directoryBit = has-subset x m directory w (has-iff-false m directory .1 z);
     }
 
 -- step 11: a file gains 0x20
-pub archived : (a : ℕ) → Attributes false a → Attributes false (bitOr a archive)
+pub archived : (a : ℕ) → GoodAttributes false a → GoodAttributes false (bitOr a archive)
 archived a h = joined a archive false false h (part-of archive archive (within-self archive) refl refl)
 
 -- step 9: the bit of the new file's type
-directory-kind : Attributes (isDirectory Directory) directory
+directory-kind : GoodAttributes (isDirectory Directory) directory
 unfolding isDirectory
-directory-kind = record { inRange = within-iff directory 0x3137 .1 refl; directoryBit = has-meets directory directory (λ e. omega arith) }
+directory-kind = record { attributesWithin = within-iff directory fileAttributes .1 refl; directoryBit = has-meets directory directory (λ e. omega arith) }
 
-file-kind : Attributes (isDirectory Data) archive
+file-kind : GoodAttributes (isDirectory Data) archive
 unfolding isDirectory
 file-kind = part-of archive archive (within-self archive) refl refl
 
-pub attributes-new : (r : Request) (parent : File) → Attributes (isDirectory (newType r)) (attributesNew r parent)
+pub attributes-new : (r : Request) (parent : File) → GoodAttributes (isDirectory (newType r)) (attributesNew r parent)
 unfolding attributesNew newType
 attributes-new r parent =
     let asked = bitAnd (r .attributes) 0x3127 in
@@ -133,6 +128,6 @@ attributes-new r parent =
     joined (bitOr (without asked notContentIndexed) inherited) (cond (wantsDirectory r) directory archive) false
     (isDirectory (cond (wantsDirectory r) Directory Data)) front (kind (wantsDirectory r))
   where
-    kind : (b : Bool) → Attributes (isDirectory (cond b Directory Data)) (cond b directory archive)
+    kind : (b : Bool) → GoodAttributes (isDirectory (cond b Directory Data)) (cond b directory archive)
     kind true = directory-kind
     kind false = file-kind

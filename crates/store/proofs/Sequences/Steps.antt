@@ -1,18 +1,19 @@
 -- Each kind of call keeps tables and model related, and is answered alike.
 use Prim.Native.Nat.{_<_, suc, ℕ}
-use Rattle.consistency.proofs.Equivalence.{consistent-complete}
-use Rattle.consistency.specs.Consistent.{Consistent, CountsTrue, FilesConsistent, LinksConsistent, OpensConsistent, StreamsConsistent, openAt}
+use Rattle.consistency.proofs.Derived.{free-unopened}
+use Rattle.consistency.specs.Consistent.{Consistent, CountsTrue, FilesConsistent, LinksConsistent, NoConflicts, OpensConsistent, StreamsConsistent, openAt}
 use Rattle.consistency.specs.Relations.{live}
+use Rattle.lists.proofs.FirstElement.{perm-apart}
 use Rattle.lists.proofs.PairsPerm.{none-too}
 use Rattle.lists.proofs.Permutations.{perm-sym}
-use Rattle.lists.specs.Lists.{Permutation, any, both, keep, skip, writes, find}
+use Rattle.lists.specs.Lists.{Permutation, any, both, find, keep, skip, writes}
 use Rattle.records.proofs.Checked.{Ends, goes, stops}
 use Rattle.records.specs.Checked.{Checked, Refusal, _>>=_, _>>=_, _>>_, passed, refuseIf, refused, someOr}
 use Rattle.records.specs.Constants.{shareRead}
 use Rattle.records.specs.Namespace.{Namespace, bareAt, bareUsed, namespace}
 use Rattle.records.specs.Numbers.{seen, statusNumber}
 use Rattle.records.specs.Slots.{openUsed, zeroOpen}
-use Rattle.records.specs.State.{done, Step, Tables, concluded}
+use Rattle.records.specs.State.{Step, Tables, concluded}
 use Rattle.records.specs.Terms.{Terms, termsOf}
 use Rattle.records.specs.declared.Handle.{Handle}
 use Rattle.records.specs.declared.Open.{Open}
@@ -25,14 +26,14 @@ use Rattle.store.proofs.Sequences.Completed.{DecisionFits, Unopposed, d
 use Rattle.store.proofs.Sequences.Facts.{Joins, NamespaceConsistent, Other, namespace-of}
 use Rattle.store.proofs.Sequences.Opens.Close.{Struck, handle-is, handle-used, one-handle, others-kept, struck}
 use Rattle.store.proofs.Sequences.Opens.Conflicts.{share-more}
-use Rattle.store.proofs.Sequences.Opens.Counts.{counts-joined, counts-left, counts-written, free-unopened}
-use Rattle.store.proofs.Sequences.Opens.Join.{joined, joined-live, joins-used}
-use Rattle.store.proofs.Sequences.Opens.Leave.{left, left-live}
+use Rattle.store.proofs.Sequences.Opens.Counts.{counts-joined, counts-left, counts-written}
+use Rattle.store.proofs.Sequences.Opens.Join.{conflicts-joined, joined, joined-live, joins-used}
+use Rattle.store.proofs.Sequences.Opens.Leave.{conflicts-left, left, left-live}
 use Rattle.store.proofs.Sequences.Opens.Names.{changed-names, used-below, with-open-names, without-open-names}
 use Rattle.store.proofs.Sequences.Opens.Table.{opens-kept}
-use Rattle.store.proofs.Sequences.Views.{Related, room-same, closing-alike, decided-alike}
+use Rattle.store.proofs.Sequences.Views.{Related, closing-alike, decided-alike, room-same}
 use Rattle.store.specs.Calls.{Call, closes, modelStep, opens, setsReadOnly, storeStep}
-use Rattle.store.specs.Complete.{Change, Closing, Decision, changed, newOpen, nextHandle, noChange, withShareRead, decide, decideClose}
+use Rattle.store.specs.Complete.{Change, Closing, Decision, changed, decide, decideClose, newOpen, nextHandle, noChange, withShareRead}
 use Rattle.store.specs.Model.{Model, modelClose, modelClosed, modelOpen, modelOpened, modelSetReadOnly, modelView, namespaceMarked}
 use Rattle.store.specs.Sequences.{handleOf, isCorrupt}
 use Rattle.store.specs.Store.{changedVolume, closed, hasHandle, opened, recount, storeClose, storeOpen, storeSetReadOnly, storeView, volumeMarked, volumeWithOpen, volumeWithoutOpen, whenConsistent}
@@ -40,9 +41,11 @@ use lib.ListN.{length, set}
 use mathlib.Core.Bool.{Bool, _&&_, false, not, true}
 use mathlib.Core.List.{List, _∷_}
 use mathlib.Core.Logic.{_⊎_, inl, inr, ⊎-elim}
-use mathlib.Core.Path.{_∙_, _≡_, ap, refl, subst, sym}
 use mathlib.Core.Option.{Option, none, some}
-use Rattle.lists.proofs.FirstElement.{perm-apart}
+use mathlib.Core.Path.{_∙_, _≡_, refl, subst, sym}
+use Rattle.records.specs.State.{done}
+use mathlib.Core.Path.{ap}
+use Rattle.consistency.proofs.Equivalence.{consistent-iff}
 
 -- a step of the model from m issues the next handle, or none
 abbrev pub Issues : Model → Step Model → Type 0
@@ -59,16 +62,19 @@ pub record Together (m : Model) (s : Step Tables) (s′ : Step Model) : Type 0 w
 
 -- tables whose namespace is this
 consistent-with : (t : Tables) (ns : Namespace) → namespace (t .volume) ≡ ns → NamespaceConsistent ns
-    → OpensConsistent (ns .streams) (t .volume .«next_handle» .0) (t .opens .rows) → CountsTrue (t .volume .streams) (t .opens .rows)
+    → OpensConsistent (ns .streams) (t .volume .«next_handle» .0) (t .opens .rows)
+    → CountsTrue (t .volume .streams) (t .opens .rows)
+    → NoConflicts (t .opens .rows)
     → Consistent (t .volume) (t .opens)
 unfolding namespace
-consistent-with t ns e n o c =
+consistent-with t ns e n o c a =
     record {
       files = subst (λ (x : Namespace). FilesConsistent (x .files)) (sym e) (n .files);
       links = subst (λ (x : Namespace). LinksConsistent (x .files) (x .links)) (sym e) (n .links);
       streams = subst (λ (x : Namespace). StreamsConsistent (x .files) (x .streams)) (sym e) (n .streams);
       opens = subst (λ (x : Namespace). OpensConsistent (x .streams) (t .volume .«next_handle» .0) (t .opens .rows)) (sym e) o;
       counts = c;
+      conflicts = a;
     }
 
 -- no open on a stream, none that conflicts there
@@ -79,7 +85,7 @@ none-on-stream s t os h = none-too _ _ (λ q e. ap (λ (b : Bool). b && conflict
 -- consistent tables answer as if there were no test
 pub when-consistent : (t : Tables) → Consistent (t .volume) (t .opens) → (c : Checked (Step Tables)) → whenConsistent t c ≡ concluded t c
 unfolding whenConsistent refuseIf _>>_
-when-consistent t ok c = rw (consistent-complete (t .volume) (t .opens) ok)
+when-consistent t ok c = rw (consistent-iff (t .volume) (t .opens) .1 ok)
 
 -- an accepted open, decided by the model's view
 module _ {t : Tables} {m : Model} (related : Related t m) (d : Decision) (fits : DecisionFits (namespace (t .volume)) (modelView m) d) where
@@ -130,16 +136,17 @@ module _ {t : Tables} {m : Model} (related : Related t m) (d : Decision) (fits :
       below =
           used-below (changedVolume (d .placed .change) (t .volume) .streams) (o .stream)
           (ap (λ (ns : Namespace). bareUsed (bareAt (ns .streams) (o .stream))) (changed-names (d .placed .change) (t .volume))
-          ∙ fits .joins .streamUsed)
+          ∙ fits .joins .good .namesUsedStream)
 
   pub open-related : Related after (modelOpened m d .state)
   unfolding opened modelOpened
   open-related =
-      let opens = joined (opens-kept was (fits .kept)) joins-next (unopposed-now (fits .unopposed)) roomy in
+      let opens = joined (opens-kept was (fits .kept)) joins-next roomy in
+      let conflicts = conflicts-joined o (t .opens .rows) (related .consistentTables .conflicts) (unopposed-now (fits .unopposed)) roomy in
       record {
         consistentTables =
             consistent-with after (changed (d .placed .change) (namespace (t .volume))) namespace-after (fits .after)
-            (rw next-after opens) counts-after;
+            (rw next-after opens) counts-after conflicts;
         opensAreEntries =
             both (joined-live o (t .opens .rows) roomy (joins-used joins-next (was .nextAtLeast))) (skip o (related .opensAreEntries));
         sameNamespace = namespace-after ∙ ap (changed (d .placed .change)) (related .sameNamespace);
@@ -173,7 +180,7 @@ module _ {t : Tables} {m : Model} (related : Related t m) (h : Handle) (c : Clos
       (subst (λ (q : Open). CountsTrue (recount (withoutOpen q) (q .stream) (t .volume .streams)) (set (t .opens .rows) (s .slot) zeroOpen)) (s .there)
       (counts-left (t .volume .streams) (t .opens .rows) (s .slot) (s .below) used
       (used-below (t .volume .streams) (openAt (t .opens .rows) (s .slot) .stream)
-      (related .consistentTables .opens .namesUsedStream (s .slot) used))
+      (related .consistentTables .opens .slots .usedGood (s .slot) used .namesUsedStream))
       (related .consistentTables .counts))))
 
   close-related : Related left-tables (modelClosed m c .state)
@@ -188,7 +195,8 @@ module _ {t : Tables} {m : Model} (related : Related t m) (h : Handle) (c : Clos
             consistent-with left-tables (namespace (t .volume)) closed-namespace
             (namespace-of (related .consistentTables)) (subst (λ (os : List Open). OpensConsistent (namespace (t .volume) .streams) (t .volume .«next_handle» .0) os) (sym rows-left)
             (left opens (s .slot)))
-            closed-counts;
+            closed-counts
+            (subst NoConflicts (sym rows-left) (conflicts-left (t .opens .rows) (related .consistentTables .conflicts) (s .slot)));
         opensAreEntries =
             rw rows-left
             (subst (λ (k : Handle). Permutation (live (set (t .opens .rows) (s .slot) zeroOpen)) (keep (λ q. not (hasHandle k q)) (m .entries)))
@@ -271,7 +279,7 @@ module _ {t : Tables} {m : Model} (related : Related t m) where
         relatedAfter =
             record {
               consistentTables =
-                  record { files = was .files; links = was .links; streams = was .streams; opens = was .opens; counts = was .counts };
+                  record { files = was .files; links = was .links; streams = was .streams; opens = was .opens; counts = was .counts; conflicts = was .conflicts };
               opensAreEntries = related .opensAreEntries;
               sameNamespace = ap (namespaceMarked b) (related .sameNamespace);
               nextHandle = related .nextHandle;

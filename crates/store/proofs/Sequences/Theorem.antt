@@ -1,20 +1,25 @@
 -- Demand 3: every sequence of calls from a freshly formatted volume (store/specs/Sequences.antt has the statement).
 use Prim.Native.Nat.{_<_, suc, zero, ℕ}
+use Rattle.consistency.proofs.Opens.{agree-iff}
+use Rattle.consistency.proofs.Slots.{two-iff}
+use Rattle.consistency.specs.Good.{OpensAgree, handlesDiffer, opensAgree}
 use Rattle.consistency.specs.Relations.{live, validMasks}
-use Rattle.consistency.specs.Test.{handlesDiffer, opensAgree, opensTest}
 use Rattle.format.proofs.Fresh.{fresh-consistent}
 use Rattle.format.specs.Format.{checkedMasks, format, freshTables, freshVolume, rightLengths}
-use Rattle.lists.proofs.Tests.{and-both, not-is, and-iff}
+use Rattle.lists.proofs.PairsPerm.{perm-pairs}
+use Rattle.lists.proofs.Tests.{and-both, not-is}
 use Rattle.lists.specs.Lists.{all, any, keep, nil, pairs}
 use Rattle.records.specs.Checked.{_>>_, _>>_, passed, refuseIf}
 use Rattle.records.specs.Numbers.{Reply}
-use Rattle.records.specs.Slots.{openUsed}
-use Rattle.records.specs.State.{done, Step, Tables, concluded}
+use Rattle.records.specs.Slots.{openUsed, zeroOpen}
+use Rattle.records.specs.State.{Step, Tables, concluded}
+use Rattle.records.specs.declared.Open.{Open}
 use Rattle.records.specs.declared.Outcome.the-variants.{Done, Refused}
 use Rattle.records.specs.declared.Status.the-variants.{FileCorruptError, InvalidParameter}
 use Rattle.records.specs.declared.Status.{Status}
 use Rattle.records.specs.declared.StreamNo.{StreamNo}
 use Rattle.sharing.proofs.Counts.{counts-perm}
+use Rattle.sharing.proofs.PairRule.{conflicting-sym}
 use Rattle.sharing.specs.Sharing.{countsOf}
 use Rattle.store.proofs.Sequences.Steps.{Issues, together}
 use Rattle.store.proofs.Sequences.Views.{Related}
@@ -24,18 +29,15 @@ use Rattle.store.specs.Complete.{nextHandle}
 use Rattle.store.specs.Model.{Model, freshModel, modelFormat}
 use Rattle.store.specs.Sequences.{Agree, EverySequence, handleOf, isCorrupt, issued, numbersFrom}
 use Rattle.tables.specs.Tables.{streamAt}
-use borrow.Author.Tests.{ne-eqb, eq-eqb, eqb-false, eqb-true}
+use borrow.Author.Tests.{eq-eqb, eqb-false, eqb-true, ne-eqb}
 use lib.Dec.{eqb}
 use lib.ListN.{length}
-use mathlib.Core.Bool.{_||_, Bool, false, not, true}
-use mathlib.Core.List.{[], _∷_, List}
+use mathlib.Core.Bool.{Bool, _||_, false, not, true}
+use mathlib.Core.List.{List, [], _∷_}
 use mathlib.Core.Logic.{inl, inr}
 use mathlib.Core.Path.{_∙_, _≡_, _≡_, ap, ap₂, refl, subst, subst₂, sym}
 use native.Mathlib.Omega.{arith}
-use Rattle.consistency.proofs.Opens.{opens-complete}
-use Rattle.lists.proofs.PairsPerm.{perm-pairs}
-use Rattle.records.specs.declared.Open.{Open}
-use Rattle.sharing.proofs.PairRule.{conflicting-sym}
+use Rattle.records.specs.State.{done}
 
 refused≢done : {s : Status} → Refused s ≡ Done → ⊥
 refused≢done e = let z : _≡_ {A = ℕ} 0 1 = cc in omega arith
@@ -129,10 +131,10 @@ unfolding opensAgree
 agree-swap o q = rw (eqb-swap (o .stream .0) (q .stream .0), conflicting-sym o q)
 
 no-conflict : {t : Tables} {m : Model} → Related t m → pairs opensAgree (m .entries) ≡ true
-unfolding opensTest
+unfolding live openUsed
 no-conflict {t} {m} related =
     sym (perm-pairs opensAgree agree-swap (related .opensAreEntries))
-    ∙ (simp (opensTest, and-iff) at (opens-complete _ _ _ (related .consistentTables .opens))) .1
+    ∙ two-iff openUsed zeroOpen refl opensAgree OpensAgree agree-iff (t .opens .rows) .1 (related .consistentTables .conflicts)
 
 -- all that the statement asks follows from a run that began with no handle issued
 agree : (m : Model) → m .count ≡ 0 → (s : Run Tables) (r : Run Model) → Ran m s r → Agree s r

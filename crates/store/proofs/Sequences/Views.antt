@@ -10,7 +10,7 @@ use Rattle.lists.proofs.Permutations.{perm-any, perm-length}
 use Rattle.lists.specs.Lists.{Permutation, any, count}
 use Rattle.open_table.specs.Rows.{anyOnFile}
 use Rattle.records.proofs.Checked.{Ends, went}
-use Rattle.records.specs.Checked.{Checked, _>>=_, _>>_, passed, refuseIf, refused, someOr}
+use Rattle.records.specs.Checked.{Checked, _>>=_, _>>=_, _>>_, passed, refuseIf, refused, someOr}
 use Rattle.records.specs.Namespace.{Namespace, namespace}
 use Rattle.records.specs.Sizes.{lastHandle, openSlots}
 use Rattle.records.specs.Slots.{openUsed}
@@ -29,7 +29,7 @@ use Rattle.store.proofs.Sequences.Facts.{Early, ExistingFits, PendingFi
 use Rattle.store.proofs.Sequences.Opens.Close.{handle-used, one-handle, struck}
 use Rattle.store.proofs.Sequences.Opens.Names.{used-below}
 use Rattle.store.proofs.Sequences.Prepared.{prepare-ends}
-use Rattle.store.specs.Complete.{nextHandle, View, complete, decide, decideClose, noChange, place, placeExisting, shareOf}
+use Rattle.store.specs.Complete.{View, complete, decide, decideClose, noChange, place, placeExisting, shareOf}
 use Rattle.store.specs.Model.{Model, modelView}
 use Rattle.store.specs.Prepare.{Existing, Pending, creating, existing, prepare}
 use Rattle.store.specs.Store.{hasHandle, storeView}
@@ -37,9 +37,10 @@ use Rattle.tables.specs.Tables.{streamAt}
 use lib.Dec.{eqb, ltb}
 use lib.ListN.{length}
 use mathlib.Core.Bool.{Bool, not, true}
-use mathlib.Core.List.{[], _∷_, List}
+use mathlib.Core.List.{List, [], _∷_}
 use mathlib.Core.Option.{Option}
 use mathlib.Core.Path.{_∙_, _≡_, ap, ap₂, refl, subst, sym}
+use Rattle.store.specs.Complete.{nextHandle}
 
 -- tables and a model that hold the same
 pub record Related (t : Tables) (m : Model) : Type 0 where
@@ -71,7 +72,7 @@ module _ {t : Tables} {m : Model} (related : Related t m) where
   room-agrees =
       any-fails openUsed (t .opens .rows)
       ∙ ap₂ ltb (sym (length-keep openUsed (t .opens .rows)) ∙ perm-length (related .opensAreEntries))
-      (related .consistentTables .opens .size)
+      (related .consistentTables .opens .slots .size)
 
 -- what completing a pending open asks
 pub record Alike (view view′ : View) (p : Pending) : Type 0 where

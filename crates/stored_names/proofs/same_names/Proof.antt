@@ -5,16 +5,17 @@ use native.Mathlib.Omega.{arith}
 use lib.ListN.{drop, List·getD-eq-default}
 use borrow.Author.Needs.{needs}
 use Rattle.lists.specs.Lists.{same}
+use Rattle.records.specs.Sizes.{fileNameLimit}
 use Rattle.stored_names.specs.StoredNames.{units}
 use Rattle.stored_names.proofs.NameUnits.{units-differ, units-both-end, units-same-next}
 use Rattle.stored_names.proofs.same_names.Statement.{statement}
 use Rattle.stored_names.proofs.same_names.Tie as tie
 
 abbrev Inv-loop : tie.InvT-loop
-Inv-loop a b i₀ i = (i ≤ 32) × (same (units a) (units b) ≡ same (units (drop i a)) (units (drop i b)))
+Inv-loop a b i₀ i = (i ≤ fileNameLimit) × (same (units a) (units b) ≡ same (units (drop i a)) (units (drop i b)))
 
 abbrev μ-loop : tie.MeasureT-loop
-μ-loop a b i₀ i = 32 - i
+μ-loop a b i₀ i = fileNameLimit - i
 
 loop-holds : tie.Need-loop-holds Inv-loop μ-loop
 loop-holds c = search needs

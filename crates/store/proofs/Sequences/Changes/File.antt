@@ -1,41 +1,42 @@
 -- A file that a directory gains: its placing leaves consistent names.
-use Prim.Native.Nat.{ℕ, suc, _≤_}
-use mathlib.Core.Path.{_≡_, refl, sym, _∙_, ap, subst}
-use mathlib.Core.Bool.{Bool, true, false}
-use mathlib.Core.List.{List, [], _∷_}
-use mathlib.Core.Logic.{_≢_}
-use native.Mathlib.Omega.{arith}
-use lib.ListN.{set}
-use borrow.Author.Tests.{ne-eqb}
-use Rattle.lists.specs.Lists.{all, isEmpty, padded, writes}
-use Rattle.lists.proofs.Tests.{not-both, not-is, cond-true, cond-false}
+use Prim.Native.Nat.{_≤_, suc}
+use Rattle.consistency.proofs.Numbered.{directory-file}
+use Rattle.consistency.specs.Consistent.{StreamsConsistent}
+use Rattle.consistency.specs.Relations.{typeAt}
+use Rattle.lists.proofs.PairsPerm.{set-each}
 use Rattle.lists.proofs.Slots.{FreeSlot, refuted, free-stays}
+use Rattle.lists.proofs.Tests.{not-both, not-is}
+use Rattle.lists.specs.Lists.{all, isEmpty, writes}
+use Rattle.names.specs.Names.{validFileName}
+use Rattle.paths.specs.Paths.{Leaf}
+use Rattle.records.proofs.Checked.{Ends, ends-bind, ends-cond, goes}
+use Rattle.records.specs.Namespace.{BareStream, Namespace, bareAt, bareUsed, zeroBare}
 use Rattle.records.specs.Sizes.{fileNameLimit, streamNameLimit}
-use Rattle.records.specs.Slots.{root, zeroFile, zeroLink, isDirectory, fileUsed, linkUsed}
-use Rattle.tables.specs.Tables.{fileAt}
-use Rattle.records.specs.Namespace.{Namespace, BareStream, zeroBare, bareUsed, bareAt}
-use Rattle.records.specs.Checked.{passed}
-use Rattle.records.proofs.Checked.{passed-same, bind-passed, Ends, ends-cond, ends-bind, goes}
+use Rattle.records.specs.Slots.{fileUsed, isDirectory, linkUsed, root, streamUsed, zeroFile, zeroLink}
+use Rattle.records.specs.declared.File.{File}
 use Rattle.records.specs.declared.FileNo.{FileNo}
 use Rattle.records.specs.declared.LinkNo.{LinkNo}
 use Rattle.records.specs.declared.StreamNo.{StreamNo}
-use Rattle.records.specs.declared.File.{File}
-use Rattle.records.specs.declared.Link.{Link}
-use Rattle.names.specs.Names.{validFileName}
+use Rattle.stored_names.proofs.Padded.{file-name-units, padded-begins, padded-stored, units-padded}
 use Rattle.stored_names.specs.StoredNames.{units}
-use Rattle.stored_names.proofs.Padded.{file-name-units, units-padded, padded-stored, padded-begins}
-use Rattle.consistency.specs.Consistent.{StreamsConsistent}
-use Rattle.consistency.proofs.Numbered.{directory-file}
-use Rattle.store.specs.Prepare.{newFile}
-use Rattle.store.specs.Complete.{Placed, changed, streamNew, freeFile, freeLink, freeStream, placeFile, placeStreams, place, linkNew}
-use Rattle.store.proofs.Sequences.Facts.{NamespaceConsistent, FileFits, StreamsKept, PlacedWell, Early}
 use Rattle.store.proofs.Sequences.Changes.Files.{FileAdded, file-at-new, file-at-other, files-with, not-added, used-kept}
 use Rattle.store.proofs.Sequences.Changes.Free.{file-free, link-free, stream-free}
-use Rattle.store.proofs.Sequences.Changes.Relations.{link-name-new}
 use Rattle.store.proofs.Sequences.Changes.Links.{LinkSound, links-with}
-use Rattle.store.proofs.Sequences.Changes.Streams.{streams-with, stream-every, stream-kept, stream-there, kept-both}
 use Rattle.store.proofs.Sequences.Changes.NewStream.{StreamMade, named-sound, no-stream, unnamed-sound}
-use Rattle.paths.specs.Paths.{Leaf}
+use Rattle.store.proofs.Sequences.Changes.Relations.{link-name-new}
+use Rattle.store.proofs.Sequences.Changes.Streams.{kept-both, stream-kept, stream-there, streams-with}
+use Rattle.store.proofs.Sequences.Facts.{Early, FileFits, NamespaceConsistent, PlacedWell, StreamsKept}
+use Rattle.store.specs.Cases.{after}
+use Rattle.store.specs.Complete.{changed, linkNew, place, placeFile, placeStreams, streamNew}
+use Rattle.store.specs.Prepare.{newFile}
+use Rattle.tables.specs.Tables.{fileAt}
+use borrow.Author.Tests.{ne-eqb}
+use lib.ListN.{set}
+use mathlib.Core.Bool.{false, true}
+use mathlib.Core.List.{List, [], _∷_}
+use mathlib.Core.Logic.{_≢_}
+use mathlib.Core.Path.{_∙_, _≡_, ap, refl, sym}
+use native.Mathlib.Omega.{arith}
 
 -- the files with one more
 abbrev grown : Namespace → FileNo → File → List File
@@ -44,16 +45,20 @@ grown ns f file = set (ns .files) (f .0) file
 module _ (ns : Namespace) (dir : FileNo) (leaf : Leaf) (file : File) (h : NamespaceConsistent ns)
     (fit : FileFits ns dir leaf file)
   where
-    link-sound : (f : FileNo) → LinkSound (ns .files) (ns .links) (linkNew dir (leaf .file) f)
-    unfolding linkUsed linkNew
-    link-sound f =
+    link-sound : (gs : List File) (f : FileNo) → fileUsed (fileAt gs f) ≡ true → LinkSound (ns .files) gs (ns .links) (linkNew dir (leaf .file) f)
+    unfolding linkUsed fileUsed linkNew
+    link-sound gs f u =
         let valid = file-name-units fileNameLimit (leaf .file) (fit .nameValid) in
         let same = units-padded fileNameLimit (leaf .file) valid in
         record {
           used = not-is (ne-eqb _ 0 (padded-begins fileNameLimit fileNameLimit (leaf .file) (fit .nameValid)));
-          stored = padded-stored fileNameLimit (leaf .file) valid;
-          valid = ap (validFileName fileNameLimit) same ∙ fit .nameValid;
-          parentDirectory = fit .parent;
+          good =
+              record {
+                nameStored = padded-stored fileNameLimit (leaf .file) valid;
+                nameValid = ap (validFileName fileNameLimit) same ∙ fit .nameValid;
+                namesUsedFile = u;
+                parentDirectory = fit .parent;
+              };
           nameNew = λ m u e n. link-name-new (fit .fold) dir (leaf .file) (ns .links) (fit .nameNew) m u e (n ∙ same);
         }
 
@@ -77,7 +82,7 @@ module _ (ns : Namespace) (dir : FileNo) (leaf : Leaf) (file : File) (h : Namesp
         not-root : f .0 ≢ 0
         not-root e = not-added added root (directory-file (ns .files) root (h .files .rootDirectory)) (sym e)
 
-        agrees : file .«file_type» ≡ fileAt (grown ns f file) f .«file_type»
+        agrees : file .«file_type» ≡ typeAt (grown ns f file) f
         agrees = ap (λ (x : File). x .«file_type») (sym there)
 
         unnamed : BareStream
@@ -104,19 +109,12 @@ module _ (ns : Namespace) (dir : FileNo) (leaf : Leaf) (file : File) (h : Namesp
               after =
                   record {
                     files =
-                        files-with (ns .files) f file (fileSlot .below) (h .files)
-                        (record {
-                          used = fit .used;
-                          attributesWithin = fit .attributesWithin;
-                          directoryBit = fit .directoryBit;
-                          masksValid = fit .masksValid;
-                        })
-                        not-root;
+                        files-with (ns .files) f file (fileSlot .below) (h .files) (fit .used) (fit .good) not-root;
                     links =
                         links-with (ns .files) (grown ns f file) (ns .links) f l (linkNew dir (leaf .file) f) (h .links)
                         added
                         linkSlot
-                        (link-sound f)
+                        (link-sound (grown ns f file) f (added .there))
                         refl
                         not-root;
                     streams = consistent;
@@ -143,23 +141,27 @@ module _ (ns : Namespace) (dir : FileNo) (leaf : Leaf) (file : File) (h : Namesp
             slot-still = free-stays slot unnamed (t .0) (λ e. let z : ⊥ = omega arith in z) free
 
             made : StreamMade (grown ns f file) (set (ns .streams) (s .0) unnamed) f (file .«file_type») (leaf .stream)
-            unfolding unnamed streamNew fileUsed isEmpty all
+            unfolding unnamed streamNew fileUsed isEmpty all bareAt
             made =
                 record {
                   used = fit .used;
                   agrees = agrees;
                   valid = fit .streamValid;
                   nameNew =
-                      stream-every (ns .streams) s unnamed slot
-                      (λ (x : BareStream). bareUsed x ≡ true → x .file ≡ f → units (x .name) ≢ leaf .stream)
+                      λ t.
+                      set-each zeroBare (λ (x : BareStream). bareUsed x ≡ true → x .file ≡ f → units (x .name) ≢ leaf .stream)
+                      (ns .streams)
+                      (s .0)
+                      unnamed
                       (λ u e n. not-both (ap isEmpty (sym n ∙ units-padded streamNameLimit [] refl)) given)
-                      (λ m u e.
+                      (λ j u e.
                       absurd
                       (no-stream (ns .files) (grown ns f file) (ns .streams) f (file .«file_type») (h .streams) added
                       agrees
-                      m
+                      (record { 0 = j })
                       u
-                      e));
+                      e))
+                      (t .0);
                 }
 
             no-directory : isDirectory (file .«file_type») ≡ false

@@ -1,66 +1,59 @@
 -- A link to a new file, written at a free number: the links stay consistent.
-use Prim.Native.Nat.{ℕ, suc, _+_, _<_}
-use mathlib.Core.Path.{_≡_, sym, _∙_, ap}
+use Prim.Native.Nat.{ℕ, suc, _+_}
+use mathlib.Core.Path.{_≡_, sym, _∙_, ap, subst}
 use mathlib.Core.Bool.{true, false}
 use mathlib.Core.List.{List}
 use mathlib.Core.Logic.{_≢_, ⊎-elim}
 use native.Mathlib.Decide.{ℕ-discrete}
 use native.Mathlib.Omega.{arith}
-use lib.ListN.{getD, set, length-set}
+use lib.ListN.{getD, set}
 use Rattle.lists.specs.Lists.{count}
 use Rattle.lists.proofs.Tests.{not-both}
 use Rattle.lists.proofs.Set.{one, set-cases}
-use Rattle.lists.proofs.Slots.{FreeSlot, refuted, count-none, set-every, set-pairs, count-gained, one-before, one-added}
-use Rattle.records.specs.Sizes.{fileNameLimit}
-use Rattle.records.specs.Slots.{root, zeroLink, isDirectory, fileUsed, linkUsed}
+use Rattle.lists.proofs.Slots.{FreeSlot, refuted, count-none, count-gained, one-before, one-added}
+use Rattle.records.specs.Slots.{root, zeroLink, fileUsed, linkUsed}
 use Rattle.tables.specs.Tables.{fileAt, linkAt}
+use Rattle.records.specs.declared.FileType.{FileType}
 use Rattle.records.specs.declared.FileNo.{FileNo}
 use Rattle.records.specs.declared.LinkNo.{LinkNo}
 use Rattle.records.specs.declared.File.{File}
 use Rattle.records.specs.declared.Link.{Link}
-use Rattle.names.specs.Names.{validFileName}
-use Rattle.stored_names.specs.StoredNames.{units, wellStored}
-use Rattle.consistency.specs.Relations.{linkTo, parentOf, climb}
+use Rattle.consistency.specs.Relations.{typeAt, linkTo, parentOf, climb}
+use Rattle.consistency.specs.Good.{GoodLink, LinkNamesDiffer}
 use Rattle.consistency.specs.Consistent.{LinksConsistent}
-use Rattle.consistency.proofs.Slots.{same-file}
-use Rattle.consistency.proofs.Numbered.{directory-file}
-use Rattle.consistency.proofs.Parents.{link-to-used, parent-link, parent-none, parent-used}
+use Rattle.consistency.proofs.Slots.{slots-good, slots-set, two-set}
+use Rattle.consistency.proofs.Numbered.{same-file, directory-file}
+use Rattle.consistency.proofs.Relations.{link-to-iff}
+use Rattle.consistency.proofs.Parents.{parent-link, parent-none, parent-used}
+use Rattle.store.proofs.Sequences.Changes.Types.{SameType, link-still}
 use Rattle.store.proofs.Sequences.Changes.Files.{FileAdded, not-added, used-kept, used-before}
-use Rattle.store.proofs.Sequences.Changes.Relations.{link-file, link-to}
 use Rattle.store.proofs.Sequences.Changes.Parents.{parent-set, climb-same}
 
 -- a link that the files and links may gain
-pub record LinkSound (fs : List File) (ls : List Link) (k : Link) : Type 0 where
+pub record LinkSound (fs gs : List File) (ls : List Link) (k : Link) : Type 0 where
   pub used : linkUsed k ≡ true
-  pub stored : wellStored fileNameLimit (k .name) ≡ true
-  pub valid : validFileName fileNameLimit (units (k .name)) ≡ true
-  pub parentDirectory : isDirectory (fileAt fs (k .parent) .«file_type») ≡ true
-  pub nameNew : (m : LinkNo) → linkUsed (linkAt ls m) ≡ true → linkAt ls m .parent ≡ k .parent
-      → units (linkAt ls m .name) ≢ units (k .name)
+  pub good : GoodLink (typeAt gs (k .file)) (typeAt fs (k .parent)) k
+  pub nameNew : (m : LinkNo) → linkUsed (linkAt ls m) ≡ true → LinkNamesDiffer (linkAt ls m) k
 
 module _ (fs gs : List File) (ls : List Link) (n : FileNo) (l : LinkNo) (k : Link) (h : LinksConsistent fs ls)
     (added : FileAdded fs gs n)
     (slot : FreeSlot linkUsed zeroLink ls (l .0))
-    (sound : LinkSound fs ls k)
+    (sound : LinkSound fs gs ls k)
     (own : k .file ≡ n)
     (notRoot : n .0 ≢ 0)
   where
-    link-every : (P : Link → Type 0) → P k → ((m : LinkNo) → P (linkAt ls m)) → (m : LinkNo) → P (linkAt (set ls (l .0) k) m)
-    unfolding linkAt
-    link-every P new old m = set-every ls (l .0) k zeroLink (slot .below) P new (λ j e. old (record { 0 = j })) (m .0)
-
     -- the new file had no link, and the new link is to no other file
     no-link : (i : ℕ) → linkTo n (getD ls i zeroLink) ≡ true → ⊥
-    unfolding linkAt
+    unfolding fileUsed
     no-link i t =
-        not-added added (getD ls i zeroLink .file) (h .namesUsedFile (record { 0 = i }) (link-to-used n _ t))
-        (ap (λ (f : FileNo). f .0) (link-file n _ t))
+        not-added added (getD ls i zeroLink .file) (h .slots .usedGood i (link-to-iff n _ .0 t .0) .namesUsedFile)
+        (ap (λ (f : FileNo). f .0) (link-to-iff n _ .0 t .1))
 
     other-file : (f : FileNo) → f .0 ≢ n .0 → linkTo f k ≡ false
-    other-file f e = refuted (linkTo f k) (λ t. e (ap (λ (g : FileNo). g .0) (sym (link-file f k t) ∙ own)))
+    other-file f e = refuted (linkTo f k) (λ t. e (ap (λ (g : FileNo). g .0) (sym (link-to-iff f k .0 t .1) ∙ own)))
 
     free-no-link : (f : FileNo) → linkTo f (getD ls (l .0) zeroLink) ≡ false
-    free-no-link f = refuted _ (λ t. not-both (link-to-used f _ t) (slot .free))
+    free-no-link f = refuted _ (λ t. not-both (link-to-iff f _ .0 t .0) (slot .free))
 
     count-after : (f : FileNo) → count (linkTo f) (set ls (l .0) k) ≡ count (linkTo f) ls + one (linkTo f k)
     count-after f = count-gained ls (l .0) k zeroLink (slot .below) (linkTo f) (free-no-link f)
@@ -73,22 +66,21 @@ module _ (fs gs : List File) (ls : List Link) (n : FileNo) (l : LinkNo) (k : Lin
         go (yes e) =
             let same = same-file f n e in
             one-added (ap (λ (g : FileNo). count (linkTo g) ls) same ∙ count-none (linkTo n) zeroLink ls no-link)
-            (link-to f k (sound .used) (own ∙ sym same))
+            (link-to-iff f k .1 (sound .used, own ∙ sym same))
         go (no e) = one-before (h .othersHaveOne f r (used-before added f e u)) (other-file f e)
 
-    still-directory : (f : FileNo) → isDirectory (fileAt fs f .«file_type») ≡ true → isDirectory (fileAt gs f .«file_type») ≡ true
-    still-directory f d =
-        ap (λ (x : File). isDirectory (x .«file_type»)) (used-kept added f (directory-file fs f d)) ∙ d
+    same : (f : FileNo) → fileUsed (fileAt fs f) ≡ true → SameType fs gs f
+    same f u = ap (λ (x : File). x .«file_type») (used-kept added f u)
 
     -- the way up
     Before : FileNo → Type 0
     Before f = fileUsed (fileAt fs f) ≡ true
 
     parent-before : fileUsed (fileAt fs (k .parent)) ≡ true
-    parent-before = directory-file fs (k .parent) (sound .parentDirectory)
+    parent-before = directory-file fs (k .parent) (sound .good .parentDirectory)
 
     stays-before : (f : FileNo) → Before f → Before (parentOf ls f)
-    unfolding Before linkAt
+    unfolding Before
     stays-before f u = go (ℕ-discrete (f .0) 0)
       where
         go : Dec (f .0 ≡ 0) → Before (parentOf ls f)
@@ -98,7 +90,7 @@ module _ (fs gs : List File) (ls : List Link) (n : FileNo) (l : LinkNo) (k : Lin
             ∙ u
         go (no e) =
             parent-used fs ls (h .othersHaveOne)
-            (λ i v. directory-file fs (getD ls i zeroLink .parent) (h .parentsDirectories (record { 0 = i }) v))
+            (λ i v. directory-file fs _ (h .slots .usedGood i v .parentDirectory))
             f
             (λ q. e (ap (λ (g : FileNo). g .0) q))
             u
@@ -137,47 +129,19 @@ module _ (fs gs : List File) (ls : List Link) (n : FileNo) (l : LinkNo) (k : Lin
             let q = h .parentsLeadToRoot f b in
             (q .0, as-before (q .0) f b ∙ q .1)
 
-    -- no two links of a directory have one name
-    names-differ : let ms = set ls (l .0) k in
-        (m o : LinkNo) → m .0 < o .0 → linkUsed (linkAt ms m) ≡ true → linkUsed (linkAt ms o) ≡ true
-        → linkAt ms m .parent ≡ linkAt ms o .parent → units (linkAt ms m .name) ≢ units (linkAt ms o .name)
-    unfolding linkAt
-    names-differ m o lt =
-        set-pairs ls (l .0) k zeroLink (slot .below)
-        (λ (x y : Link). linkUsed x ≡ true → linkUsed y ≡ true → x .parent ≡ y .parent → units (x .name) ≢ units (y .name))
-        (λ x y r v w e q. r w v (sym e) (sym q))
-        (λ j e v w. sound .nameNew (record { 0 = j }) v)
-        (λ i j. h .namesDiffer (record { 0 = i }) (record { 0 = j }))
-        (m .0)
-        (o .0)
-        lt
-
     pub links-with : LinksConsistent gs (set ls (l .0) k)
     unfolding linkAt one
     links-with =
         record {
-          size = length-set ls (l .0) k ∙ h .size;
-          freeZero =
-              link-every (λ (x : Link). linkUsed x ≡ false → x ≡ zeroLink) (λ u. absurd (not-both (sound .used) u))
-              (h .freeZero);
-          namesStored =
-              link-every (λ (x : Link). linkUsed x ≡ true → wellStored fileNameLimit (x .name) ≡ true) (λ u. sound .stored)
-              (h .namesStored);
-          namesValid =
-              link-every (λ (x : Link). linkUsed x ≡ true → validFileName fileNameLimit (units (x .name)) ≡ true)
-              (λ u. sound .valid)
-              (h .namesValid);
-          namesUsedFile =
-              link-every (λ (x : Link). linkUsed x ≡ true → fileUsed (fileAt gs (x .file)) ≡ true)
-              (λ u. ap (λ (f : FileNo). fileUsed (fileAt gs f)) own ∙ added .there)
-              (λ m u. let v = h .namesUsedFile m u in ap fileUsed (used-kept added _ v) ∙ v);
+          slots =
+              slots-set (slots-good (link-still fs gs same) (h .slots)) (l .0) k
+              (λ u. subst (λ (t : FileType). GoodLink (typeAt gs (k .file)) t k) (sym (same (k .parent) parent-before)) (sound .good))
+              (λ u. absurd (not-both (sound .used) u));
           rootHasNone =
               omega (arith, count-after root, h .rootHasNone, ap one (other-file root (λ e. notRoot (sym e))));
           othersHaveOne = one-each;
-          parentsDirectories =
-              link-every (λ (x : Link). linkUsed x ≡ true → isDirectory (fileAt gs (x .parent) .«file_type») ≡ true)
-              (λ u. still-directory (k .parent) (sound .parentDirectory))
-              (λ m u. still-directory (linkAt ls m .parent) (h .parentsDirectories m u));
           parentsLeadToRoot = leads-to-root;
-          namesDiffer = names-differ;
+          namesDiffer =
+              two-set linkUsed zeroLink LinkNamesDiffer (λ x y d e n. d (sym e) (sym n)) ls (h .namesDiffer) (l .0) k
+              (λ j w u e n. sound .nameNew (record { 0 = j }) u (sym e) (sym n));
         }

@@ -20,18 +20,19 @@ use Rattle.records.specs.declared.File.{File}
 use Rattle.names.specs.Names.{validStreamName}
 use Rattle.stored_names.specs.StoredNames.{units}
 use Rattle.stored_names.proofs.Padded.{stream-name-units, units-padded, padded-stored}
-use Rattle.consistency.specs.Relations.{streamOf, unnamedOf}
+use Rattle.consistency.specs.Relations.{typeAt, streamOf, unnamedOf}
 use Rattle.consistency.specs.Consistent.{StreamsConsistent}
-use Rattle.consistency.proofs.Slots.{same-file}
+use Rattle.consistency.proofs.Numbered.{same-file}
+use Rattle.consistency.proofs.Relations.{stream-of-iff, unnamed-iff}
+use Rattle.consistency.proofs.Derived.{stream-good}
 use Rattle.store.specs.Complete.{streamNew}
 use Rattle.store.proofs.Sequences.Changes.Files.{FileAdded, not-added, used-before}
-use Rattle.store.proofs.Sequences.Changes.Relations.{stream-used, stream-file, stream-of, unnamed-stream, unnamed-empty, unnamed-of}
 use Rattle.store.proofs.Sequences.Changes.Streams.{StreamSound}
 
 -- what a stream made for a file asks beside the counts
 pub record StreamMade (fs : List File) (ss : List BareStream) (f : FileNo) (type : FileType) (name : List ℕ) : Type 0 where
   pub used : isUsed type ≡ true
-  pub agrees : type ≡ fileAt fs f .«file_type»
+  pub agrees : type ≡ typeAt fs f
   pub valid : validStreamName streamNameLimit name ≡ true
   pub nameNew : (t : StreamNo) → bareUsed (bareAt ss t) ≡ true → bareAt ss t .file ≡ f → units (bareAt ss t .name) ≢ name
 
@@ -44,16 +45,19 @@ module _ (fs : List File) (ss : List BareStream) (f : FileNo) (type : FileType) 
   made-units = units-padded streamNameLimit name (stream-name-units streamNameLimit name (made .valid))
 
   made-sound : ((g : FileNo) → fileUsed (fileAt fs g) ≡ true → count (unnamedOf g) ss + one (unnamedOf g (streamNew f type name)) ≡ 1)
-      → ((g : FileNo) → isDirectory (fileAt fs g .«file_type») ≡ true → count (streamOf g) ss + one (streamOf g (streamNew f type name)) ≡ 1)
+      → ((g : FileNo) → isDirectory (typeAt fs g) ≡ true → count (streamOf g) ss + one (streamOf g (streamNew f type name)) ≡ 1)
       → StreamSound fs ss (streamNew f type name)
   unfolding streamNew fileUsed
   made-sound unnamed directories =
       record {
         used = made-used;
-        stored = padded-stored streamNameLimit name (stream-name-units streamNameLimit name (made .valid));
-        valid = ap (validStreamName streamNameLimit) made-units ∙ made .valid;
-        fileThere = ap isUsed (sym (made .agrees)) ∙ made .used;
-        typeAgrees = made .agrees;
+        good =
+            record {
+              nameStored = padded-stored streamNameLimit name (stream-name-units streamNameLimit name (made .valid));
+              nameValid = ap (validStreamName streamNameLimit) made-units ∙ made .valid;
+              namesUsedFile = ap isUsed (sym (made .agrees)) ∙ made .used;
+              typeAgrees = made .agrees;
+            };
         nameNew = λ t u e n. made .nameNew t u e (n ∙ made-units);
         oneUnnamed = unnamed;
         directoriesHaveOne = directories;
@@ -65,22 +69,23 @@ module _ (fs : List File) (ss : List BareStream) (f : FileNo) (type : FileType) 
   named-sound h n d =
       made-sound
       (λ g u. one-before (h .oneUnnamed g u)
-      (refuted _ (λ e. not-both (ap isEmpty (sym made-units ∙ unnamed-empty g (streamNew f type name) e)) n)))
+      (refuted _ (λ e. not-both (ap isEmpty (sym made-units ∙ unnamed-iff g (streamNew f type name) .0 e .1)) n)))
       (λ g u. one-before (h .directoriesHaveOne g u)
       (refuted _
       (λ e.
       not-both u
-      (ap (λ (x : FileNo). isDirectory (fileAt fs x .«file_type»)) (sym (stream-file g (streamNew f type name) e))
+      (ap (λ (x : FileNo). isDirectory (typeAt fs x)) (sym (stream-of-iff g (streamNew f type name) .0 e .1))
       ∙ ap isDirectory (sym (made .agrees))
       ∙ d))))
 
 -- the unnamed one of a file whose number was free
 module _ (fs gs : List File) (ss : List BareStream) (n : FileNo) (type : FileType) (h : StreamsConsistent fs ss)
     (added : FileAdded fs gs n)
-    (agrees : type ≡ fileAt gs n .«file_type»)
+    (agrees : type ≡ typeAt gs n)
   where
     pub no-stream : (t : StreamNo) → bareUsed (bareAt ss t) ≡ true → bareAt ss t .file ≡ n → ⊥
-    no-stream t u e = not-added added (bareAt ss t .file) (h .namesUsedFile t u) (ap (λ (f : FileNo). f .0) e)
+    unfolding fileUsed
+    no-stream t u e = not-added added (bareAt ss t .file) (stream-good h t u .namesUsedFile) (ap (λ (f : FileNo). f .0) e)
 
     unnamed : BareStream
     unnamed = streamNew n type []
@@ -101,20 +106,20 @@ module _ (fs gs : List File) (ss : List BareStream) (n : FileNo) (type : FileTyp
             one-added
             (count-none (p f) zeroBare ss
             (λ i q.
-            let s = stream f _ q in
-            no-stream (record { 0 = i }) (stream-used f _ s) (stream-file f _ s ∙ same-file f n e)))
+            let s = stream-of-iff f _ .0 (stream f _ q) in
+            no-stream (record { 0 = i }) (s .0) (s .1 ∙ same-file f n e)))
             (ap (λ (g : FileNo). p g unnamed) (same-file f n e) ∙ own)
         go (no e) =
             one-before (before e)
-            (refuted _ (λ q. e (ap (λ (g : FileNo). g .0) (sym (stream-file f unnamed (stream f unnamed q))))))
+            (refuted _ (λ q. e (ap (λ (g : FileNo). g .0) (sym (stream-of-iff f unnamed .0 (stream f unnamed q) .1)))))
 
     pub unnamed-sound : StreamSound gs ss (streamNew n type [])
     unfolding unnamed streamNew validStreamName all units
     unnamed-sound =
-        let own = stream-of n unnamed (made-used gs ss n type [] unnamed-made) refl in
+        let own = stream-of-iff n unnamed .1 (made-used gs ss n type [] unnamed-made, refl) in
         made-sound gs ss n type [] unnamed-made
         (λ f u.
-        one-each unnamedOf unnamed-stream (unnamed-of n unnamed own (made-units gs ss n type [] unnamed-made)) f
+        one-each unnamedOf (λ g x q. unnamed-iff g x .0 q .0) (unnamed-iff n unnamed .1 (own, made-units gs ss n type [] unnamed-made)) f
         (λ e. h .oneUnnamed f (used-before added f e u)))
         (λ f u.
         one-each streamOf (λ g x q. q) own f

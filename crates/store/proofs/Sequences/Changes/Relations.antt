@@ -1,13 +1,12 @@
--- What the tests on links and streams say, and that a name that nothing matches is new.
+-- A name that nothing matches is new.
 use Prim.Native.Nat.{ℕ}
 use mathlib.Core.Path.{_≡_, ap}
 use mathlib.Core.Bool.{Bool, true, false}
-use mathlib.Core.List.{List, []}
+use mathlib.Core.List.{List}
 use mathlib.Core.Logic.{_≢_}
-use lib.Dec.{eqb}
-use borrow.Author.Tests.{eqb-true, eq-eqb}
-use Rattle.lists.specs.Lists.{any, isEmpty}
-use Rattle.lists.proofs.Tests.{not-both, and-left, and-right, and-both, empty-is}
+use borrow.Author.Tests.{eq-eqb}
+use Rattle.lists.specs.Lists.{any}
+use Rattle.lists.proofs.Tests.{not-both, and-both}
 use Rattle.lists.proofs.Slots.{any-fails}
 use Rattle.records.specs.Slots.{zeroLink, linkUsed}
 use Rattle.tables.specs.Tables.{linkAt}
@@ -20,46 +19,8 @@ use Rattle.stored_names.specs.StoredNames.{units}
 use Rattle.units.proofs.Compare.{equal-matches}
 use Rattle.lookup.specs.Lookup.{linkMatches}
 use Rattle.stream_lookup.specs.StreamLookup.{streamMatches}
-use Rattle.consistency.specs.Relations.{linkTo, streamOf, unnamedOf}
-use Rattle.consistency.proofs.Slots.{same-file}
 use Rattle.consistency.proofs.Links.{link-in}
 use Rattle.consistency.proofs.Streams.{stream-in}
-
--- a link to a file
-module _ (f : FileNo) (x : Link) where
-  pub link-file : linkTo f x ≡ true → x .file ≡ f
-  unfolding linkTo
-  link-file h = same-file (x .file) f (eqb-true (x .file .0) (f .0) (and-right (linkUsed x) (eqb (x .file .0) (f .0)) h))
-
-  pub link-to : linkUsed x ≡ true → x .file ≡ f → linkTo f x ≡ true
-  unfolding linkTo
-  link-to u e = and-both u (eq-eqb (x .file .0) (f .0) (ap (λ (g : FileNo). g .0) e))
-
--- a stream of a file, and its unnamed one
-module _ (f : FileNo) (x : BareStream) where
-  pub stream-used : streamOf f x ≡ true → bareUsed x ≡ true
-  unfolding streamOf
-  stream-used h = and-left (bareUsed x) (eqb (x .file .0) (f .0)) h
-
-  pub stream-file : streamOf f x ≡ true → x .file ≡ f
-  unfolding streamOf
-  stream-file h = same-file (x .file) f (eqb-true (x .file .0) (f .0) (and-right (bareUsed x) (eqb (x .file .0) (f .0)) h))
-
-  pub stream-of : bareUsed x ≡ true → x .file ≡ f → streamOf f x ≡ true
-  unfolding streamOf
-  stream-of u e = and-both u (eq-eqb (x .file .0) (f .0) (ap (λ (g : FileNo). g .0) e))
-
-  pub unnamed-stream : unnamedOf f x ≡ true → streamOf f x ≡ true
-  unfolding unnamedOf
-  unnamed-stream h = and-left (streamOf f x) (isEmpty (units (x .name))) h
-
-  pub unnamed-empty : unnamedOf f x ≡ true → units (x .name) ≡ []
-  unfolding unnamedOf
-  unnamed-empty h = empty-is (units (x .name)) (and-right (streamOf f x) (isEmpty (units (x .name))) h)
-
-  pub unnamed-of : streamOf f x ≡ true → units (x .name) ≡ [] → unnamedOf f x ≡ true
-  unfolding unnamedOf isEmpty
-  unnamed-of h e = and-both h (ap isEmpty e)
 
 -- where nothing matches a name, folded or not, no used record has it
 module _ (fold : Bool) (f : FileNo) (name : List ℕ) where

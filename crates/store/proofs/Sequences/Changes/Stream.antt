@@ -19,13 +19,14 @@ use Rattle.records.specs.declared.StreamNo.{StreamNo}
 use Rattle.records.specs.declared.File.{File}
 use Rattle.consistency.specs.Relations.{unnamedOf}
 use Rattle.consistency.proofs.Numbered.{file-in}
+use Rattle.consistency.proofs.Relations.{stream-of-iff, unnamed-iff}
 use Rattle.store.specs.Prepare.{newStream}
 use Rattle.store.specs.Complete.{Placed, changed, attributeChange, withAttributes, streamNew, freeStream, place}
 use Rattle.store.proofs.Sequences.Facts.{NamespaceConsistent, StreamFits, PlacedWell, Early}
 use Rattle.store.proofs.Sequences.Changes.Types.{is-data}
 use Rattle.store.proofs.Sequences.Changes.Attributes.{attributes-kept, same-types}
 use Rattle.store.proofs.Sequences.Changes.Free.{stream-free}
-use Rattle.store.proofs.Sequences.Changes.Relations.{stream-name-new, stream-used, stream-file, unnamed-stream, unnamed-empty}
+use Rattle.store.proofs.Sequences.Changes.Relations.{stream-name-new}
 use Rattle.store.proofs.Sequences.Changes.Streams.{streams-with, stream-kept, stream-there}
 use Rattle.store.proofs.Sequences.Changes.NewStream.{StreamMade, made-used, named-sound}
 
@@ -43,10 +44,10 @@ module _ (ns : Namespace) (f : FileNo) (a : ℕ) (name : List ℕ) (h : Namespac
       let none-unnamed =
       count-none (unnamedOf f) zeroBare (ns .streams)
       (λ i q.
-      let s = unnamed-stream f _ q in
-      stream-name-new (fit .fold) f name (ns .streams) (fit .nameNew) (record { 0 = i }) (stream-used f _ s)
-      (stream-file f _ s)
-      (unnamed-empty f _ q ∙ sym (empty-is name e))) in
+      let u = unnamed-iff f _ .0 q in
+      let s = stream-of-iff f _ .0 (u .0) in
+      stream-name-new (fit .fold) f name (ns .streams) (fit .nameNew) (record { 0 = i }) (s .0) (s .1)
+      (u .1 ∙ sym (empty-is name e))) in
       let z : ⊥ = omega (arith, none-unnamed, h .streams .oneUnnamed f is-used) in
       z)
 

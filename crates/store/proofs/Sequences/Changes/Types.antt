@@ -1,16 +1,20 @@
 -- Files that agree in type: links and streams ask a file for its type alone.
-use mathlib.Core.Path.{_≡_, refl, sym, _∙_, ap}
+use mathlib.Core.Path.{_≡_, refl, sym, _∙_, ap, subst, subst₂}
 use mathlib.Core.Bool.{true, false≢true}
 use mathlib.Core.List.{List}
-use Rattle.records.specs.Slots.{isUsed, isData, isDirectory, fileUsed}
+use Rattle.records.specs.Slots.{isUsed, isData, isDirectory, fileUsed, linkUsed}
 use Rattle.tables.specs.Tables.{fileAt}
-use Rattle.records.specs.Namespace.{BareStream}
+use Rattle.records.specs.Namespace.{BareStream, bareUsed}
 use Rattle.records.specs.declared.FileType.{FileType}
 use Rattle.records.specs.declared.FileType.the-variants.{Unused, Data, Directory}
 use Rattle.records.specs.declared.FileNo.{FileNo}
 use Rattle.records.specs.declared.File.{File}
 use Rattle.records.specs.declared.Link.{Link}
-use Rattle.consistency.specs.Consistent.{LinksConsistent, StreamsConsistent}
+use Rattle.consistency.specs.Relations.{typeAt}
+use Rattle.consistency.specs.Good.{GoodLink, GoodStream}
+use Rattle.consistency.specs.Consistent.{GoodLinkOf, LinksConsistent, GoodStreamOf, StreamsConsistent}
+use Rattle.consistency.proofs.Slots.{slots-good}
+use Rattle.consistency.proofs.Numbered.{directory-used}
 
 pub is-data : (t : FileType) → isData t ≡ true → t ≡ Data
 unfolding isData
@@ -20,42 +24,40 @@ is-data Directory h = absurd (false≢true h)
 
 -- the tables have one type at the number
 abbrev pub SameType : List File → List File → FileNo → Type 0
-SameType fs gs f = fileAt gs f .«file_type» ≡ fileAt fs f .«file_type»
+SameType fs gs f = typeAt gs f ≡ typeAt fs f
 
-module _ (fs gs : List File) (f : FileNo) (same : SameType fs gs f) where
-  pub used-same : fileUsed (fileAt gs f) ≡ fileUsed (fileAt fs f)
+-- where the used files have one type in both, links and streams are as good in the one as in the other
+module _ (fs gs : List File) (same : (f : FileNo) → fileUsed (fileAt fs f) ≡ true → SameType fs gs f) where
+  pub link-still : (l : Link) → linkUsed l ≡ true → GoodLinkOf fs l → GoodLinkOf gs l
   unfolding fileUsed
-  used-same = ap isUsed same
+  link-still l u g =
+      subst₂ (λ (a b : FileType). GoodLink a b l) (sym (same (l .file) (g .namesUsedFile)))
+      (sym (same (l .parent) (directory-used _ (g .parentDirectory)))) g
 
-  pub directory-same : isDirectory (fileAt gs f .«file_type») ≡ isDirectory (fileAt fs f .«file_type»)
-  directory-same = ap isDirectory same
+  pub stream-still : (s : BareStream) → bareUsed s ≡ true → GoodStreamOf fs s → GoodStreamOf gs s
+  unfolding fileUsed
+  stream-still s u g = subst (λ (t : FileType). GoodStream t s) (sym (same (s .file) (g .namesUsedFile))) g
 
 module _ (fs gs : List File) (same : (f : FileNo) → SameType fs gs f) where
+  used-before : (f : FileNo) → fileUsed (fileAt gs f) ≡ true → fileUsed (fileAt fs f) ≡ true
+  unfolding fileUsed
+  used-before f u = ap isUsed (sym (same f)) ∙ u
+
   pub links-kept : (ls : List Link) → LinksConsistent fs ls → LinksConsistent gs ls
   links-kept ls h =
       record {
-        size = h .size;
-        freeZero = h .freeZero;
-        namesStored = h .namesStored;
-        namesValid = h .namesValid;
-        namesUsedFile = λ l u. used-same fs gs _ (same _) ∙ h .namesUsedFile l u;
+        slots = slots-good (link-still fs gs (λ f u. same f)) (h .slots);
         rootHasNone = h .rootHasNone;
-        othersHaveOne = λ f r u. h .othersHaveOne f r (sym (used-same fs gs f (same f)) ∙ u);
-        parentsDirectories = λ l u. directory-same fs gs _ (same _) ∙ h .parentsDirectories l u;
-        parentsLeadToRoot = λ f u. h .parentsLeadToRoot f (sym (used-same fs gs f (same f)) ∙ u);
+        othersHaveOne = λ f r u. h .othersHaveOne f r (used-before f u);
+        parentsLeadToRoot = λ f u. h .parentsLeadToRoot f (used-before f u);
         namesDiffer = h .namesDiffer;
       }
 
   pub streams-kept : (ss : List BareStream) → StreamsConsistent fs ss → StreamsConsistent gs ss
   streams-kept ss h =
       record {
-        size = h .size;
-        freeZero = h .freeZero;
-        namesStored = h .namesStored;
-        namesValid = h .namesValid;
-        namesUsedFile = λ s u. used-same fs gs _ (same _) ∙ h .namesUsedFile s u;
-        typesAgree = λ s u. h .typesAgree s u ∙ sym (same _);
-        oneUnnamed = λ f u. h .oneUnnamed f (sym (used-same fs gs f (same f)) ∙ u);
-        directoriesHaveOne = λ f u. h .directoriesHaveOne f (sym (directory-same fs gs f (same f)) ∙ u);
+        slots = slots-good (stream-still fs gs (λ f u. same f)) (h .slots);
+        oneUnnamed = λ f u. h .oneUnnamed f (used-before f u);
+        directoriesHaveOne = λ f u. h .directoriesHaveOne f (ap isDirectory (sym (same f)) ∙ u);
         namesDiffer = h .namesDiffer;
       }

@@ -1,6 +1,6 @@
 -- A handle among the opens: the one that has it, and the opens that are left when that one goes.
 use Prim.Native.Nat.{_<_, ℕ}
-use Rattle.consistency.proofs.Slots.{same-handle}
+use Rattle.consistency.proofs.Numbered.{same-handle}
 use Rattle.consistency.specs.Consistent.{OpensConsistent, openAt}
 use Rattle.consistency.specs.Relations.{live}
 use Rattle.lists.proofs.All.{all-at}

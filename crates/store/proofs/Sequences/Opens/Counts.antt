@@ -1,33 +1,29 @@
 -- The share counts stay true: an open joins or leaves, and a change leaves them.
-use Prim.Native.Nat.{ℕ, _<_}
-use mathlib.Core.Path.{_≡_, sym, _∙_, ap, refl}
-use mathlib.Core.Bool.{true, false, not}
-use mathlib.Core.List.{List, [], _∷_, map}
-use mathlib.Core.Logic.{⊎-elim}
-use native.Mathlib.Decide.{ℕ-discrete}
-use native.Mathlib.Omega.{arith}
-use lib.Dec.{eqb}
-use lib.ListN.{length-map, length, getD, set, length-set, List·getD-map}
-use lib.Seq.{getD-set-same, getD-set-other, map-set-same}
-use borrow.Author.Tests.{eq-eqb, ne-eqb, not-true}
-use Rattle.lists.specs.Lists.{all, any, count, writes}
-use Rattle.lists.proofs.Tests.{and-left, and-right, not-is, not-both}
+use lib.Seq.{map-set-same}
+use Prim.Native.Nat.{_<_, ℕ}
+use Rattle.consistency.specs.Consistent.{CountsTrue, openAt}
+use Rattle.consistency.specs.Relations.{live}
 use Rattle.lists.proofs.Set.{set-cases}
-use Rattle.lists.proofs.PairsPerm.{none-of, kept-each, all-weaker, keep-none}
-use Rattle.records.specs.Slots.{zeroCounts, zeroOpen, zeroStream, openUsed}
-use Rattle.tables.specs.Tables.{streamAt}
-use Rattle.records.specs.Namespace.{BareStream, zeroBare, bareUsed, bareAt, bare, withCounts}
-use Rattle.records.specs.declared.StreamNo.{StreamNo}
+use Rattle.lists.specs.Lists.{any}
+use Rattle.records.specs.Namespace.{BareStream, bare, withCounts}
+use Rattle.records.specs.Slots.{openUsed, zeroCounts, zeroOpen, zeroStream}
+use Rattle.records.specs.declared.Open.{Open}
 use Rattle.records.specs.declared.ShareCounts.{ShareCounts}
 use Rattle.records.specs.declared.Stream.{Stream}
-use Rattle.records.specs.declared.Open.{Open}
-use Rattle.sharing.specs.Sharing.{onStream, countsOfAll, countsOf, withOpen, withoutOpen}
-use Rattle.sharing.proofs.Counts.{counts-perm, counts-cons, counts-skip, counts-less}
-use Rattle.consistency.specs.Relations.{live}
-use Rattle.consistency.specs.Consistent.{openAt, OpensConsistent, CountsTrue}
-use Rattle.store.specs.Store.{recount, rowsWithOpen, writeStreams}
+use Rattle.records.specs.declared.StreamNo.{StreamNo}
+use Rattle.sharing.proofs.Counts.{counts-cons, counts-less, counts-perm, counts-skip}
+use Rattle.sharing.specs.Sharing.{countsOf, onStream, withOpen, withoutOpen}
 use Rattle.store.proofs.Sequences.Opens.Join.{joined-live}
 use Rattle.store.proofs.Sequences.Opens.Leave.{left-live}
+use Rattle.store.specs.Store.{recount, rowsWithOpen, writeStreams}
+use Rattle.tables.specs.Tables.{streamAt}
+use borrow.Author.Tests.{eq-eqb, ne-eqb}
+use lib.ListN.{List·getD-map, getD, length, length-map, length-set, set}
+use mathlib.Core.Bool.{false, not, true}
+use mathlib.Core.List.{List, [], _∷_, map}
+use mathlib.Core.Logic.{⊎-elim}
+use mathlib.Core.Path.{_∙_, _≡_, ap, refl, sym}
+use native.Mathlib.Omega.{arith}
 
 pub length-recount : (f : ShareCounts → ShareCounts) (s : StreamNo) (ss : List Stream) → length (recount f s ss) ≡ length ss
 unfolding recount
@@ -92,14 +88,3 @@ counts-written ws ss os c s l =
     λ ts. List·getD-map (λ (t : Stream). t .counts) ts (s .0) zeroStream in
     sym (at (writeStreams ws ss)) ∙ ap (λ (cs : List ShareCounts). getD cs (s .0) zeroCounts) same ∙ at ss
     ∙ c s (omega (arith, ap length same, length-map (writeStreams ws ss) (λ (t : Stream). t .counts), length-map ss (λ (t : Stream). t .counts)))
-
--- no live open stands on a free stream
-pub free-unopened : {bs : List BareStream} {next : ℕ} {os : List Open} → OpensConsistent bs next os → (s : StreamNo)
-    → bareUsed (bareAt bs s) ≡ false → any (onStream s) (live os) ≡ false
-unfolding live onStream bareAt
-free-unopened {bs} {next} {os} c s f =
-    none-of (onStream s) zeroOpen (live os)
-    (kept-each openUsed zeroOpen (λ o. onStream s o ≡ false) os
-    (λ i u.
-    ne-eqb (openAt os i .stream .0) (s .0)
-    (λ e. not-both (c .namesUsedStream i u) (ap (λ (n : ℕ). bareUsed (getD bs n zeroBare)) e ∙ f))))

@@ -1,30 +1,31 @@
 -- An open joins the table: it takes the lowest free slot.
-use Prim.Native.Nat.{ℕ, suc, _≤_, _<_}
-use mathlib.Core.Path.{_≡_, refl, sym, _∙_, ap}
-use mathlib.Core.Bool.{true, false, not, _&&_}
-use mathlib.Core.List.{List, _∷_}
-use native.Mathlib.Omega.{arith}
-use lib.ListN.{length, set}
-use borrow.Author.Tests.{eq-eqb, ne-eqb, not-true}
-use Rattle.lists.specs.Lists.{any, first, firstAfter, Permutation}
-use Rattle.lists.proofs.Tests.{not-is, not-both, and-fails}
+use Prim.Native.Nat.{_<_, _≤_, suc, ℕ}
+use Rattle.consistency.specs.Consistent.{NoConflicts, OpensConsistent, openAt}
+use Rattle.consistency.specs.Relations.{live}
 use Rattle.lists.proofs.Find.{first-found, first-some}
-use Rattle.lists.proofs.Permutations.{keep-set-in}
 use Rattle.lists.proofs.PairsPerm.{none-kept-at}
-use Rattle.records.specs.Slots.{zeroOpen, openUsed}
+use Rattle.lists.proofs.Permutations.{keep-set-in}
+use Rattle.lists.proofs.Tests.{and-fails, not-both, not-is}
+use Rattle.lists.specs.Lists.{Permutation, any, first, firstAfter}
 use Rattle.records.specs.Namespace.{BareStream}
-use Rattle.records.specs.declared.StreamNo.{StreamNo}
+use Rattle.records.specs.Slots.{openUsed, zeroOpen}
+use Rattle.records.specs.Terms.{Terms, termsOf}
 use Rattle.records.specs.declared.Handle.{Handle}
 use Rattle.records.specs.declared.Open.{Open}
-use Rattle.sharing.specs.Sharing.{conflict, conflicting, onStream, anyConflict}
+use Rattle.records.specs.declared.StreamNo.{StreamNo}
 use Rattle.sharing.proofs.PairRule.{conflicting-sym}
-use Rattle.consistency.specs.Relations.{live}
-use Rattle.consistency.specs.Consistent.{openAt, OpensConsistent}
-use Rattle.store.specs.Store.{rowsWithOpen, stored}
+use Rattle.sharing.specs.Sharing.{anyConflict, conflict, conflicting, onStream}
 use Rattle.store.proofs.Sequences.Facts.{Joins}
-use Rattle.store.proofs.Sequences.Opens.Table.{Stands, Apart, replaced}
-use Rattle.records.specs.Terms.{Terms, termsOf}
+use Rattle.store.proofs.Sequences.Opens.Table.{conflicts-set}
+use Rattle.store.proofs.Sequences.Opens.Table.{replaced}
+use Rattle.store.specs.Store.{rowsWithOpen, stored}
+use borrow.Author.Tests.{eq-eqb, ne-eqb, not-true}
+use lib.ListN.{length, set}
+use mathlib.Core.Bool.{_&&_, false, not, true}
+use mathlib.Core.List.{List, _∷_}
 use mathlib.Core.Option.{Option}
+use mathlib.Core.Path.{_∙_, _≡_, ap, refl, sym}
+use native.Mathlib.Omega.{arith}
 
 -- the slot that an open takes
 pub record Taken (o : Open) (os : List Open) : Type 0 where
@@ -58,35 +59,26 @@ pub joins-used : {ss : List BareStream} {next : ℕ} {o : Open} → Joins ss nex
 unfolding openUsed
 joins-used {ss} {next} {o} j l = not-is (ne-eqb (o .handle .0) 0 (λ z. let w : ⊥ = omega (arith, j .handle) in w))
 
+-- the other opens have lower handles
 pub joined : {ss : List BareStream} {next : ℕ} {os : List Open} {o : Open} → OpensConsistent ss next os → Joins ss next o
-    → anyConflict (o .stream) (termsOf o) (live os) ≡ false
     → any (λ q. not (openUsed q)) os ≡ true
     → OpensConsistent ss (suc next) (rowsWithOpen o os)
-unfolding conflicting
-joined {ss} {next} {os} {o} c j n r =
+joined {ss} {next} {os} {o} c j r =
+    let t = taken o os r in
     rw (t .rows)
-    (replaced c (omega arith) (t .slot) o (λ z. absurd (not-both (joins-used j (c .nextAtLeast)) z)) (λ u. stands) (λ i u. apart i))
-  where
-    t : Taken o os
-    t = taken o os r
+    (replaced c (omega arith) (t .slot) o (λ z. absurd (not-both (joins-used j (c .nextAtLeast)) z)) (λ u. j .good)
+    (λ i w u e. let z : ⊥ = omega (arith, ap (λ (h : Handle). h .0) e, j .handle, c .slots .usedGood i u .handleBelow) in z))
 
-    stands : Stands ss (suc next) o
-    stands =
-        record {
-          grantable = j .grantable;
-          streamUsed = j .streamUsed;
-          streamFile = j .streamFile;
-          handleBelow = omega (arith, j .handle);
-        }
-
-    apart : (i : ℕ) → openUsed (openAt os i) ≡ true → Apart o (openAt os i)
-    apart i u =
-        record {
-          handlesDiffer =
-              λ e. let z : ⊥ = omega (arith, ap (λ (h : Handle). h .0) e, j .handle, c .handlesBelow i u) in z;
-          noConflict =
-              λ e. conflicting-sym o (openAt os i) ∙ no-conflict-at (o .stream) (termsOf o) os n i u (sym e);
-        }
+pub conflicts-joined : (o : Open) (os : List Open) → NoConflicts os
+    → anyConflict (o .stream) (termsOf o) (live os) ≡ false
+    → any (λ q. not (openUsed q)) os ≡ true
+    → NoConflicts (rowsWithOpen o os)
+unfolding conflicting
+conflicts-joined o os c n r =
+    let t = taken o os r in
+    rw (t .rows)
+    (conflicts-set os c (t .slot) o
+    (λ i w u e. conflicting-sym o (openAt os i) ∙ no-conflict-at (o .stream) (termsOf o) os n i u (sym e)))
 
 pub joined-live : (o : Open) (os : List Open) → any (λ q. not (openUsed q)) os ≡ true → openUsed o ≡ true
     → Permutation (live (rowsWithOpen o os)) (o ∷ live os)

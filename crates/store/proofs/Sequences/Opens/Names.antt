@@ -21,11 +21,6 @@ use Rattle.consistency.proofs.Streams.{stream-in}
 use Rattle.store.specs.Complete.{Change, changed}
 use Rattle.store.specs.Store.{changedVolume, recount, volumeWithOpen, volumeWithoutOpen, writeStreams}
 
--- a stream of the volume, without its counts, is that of its names
-pub bare-at : (ss : List Stream) (s : StreamNo) → bareAt (map bare ss) s ≡ bare (streamAt ss s)
-unfolding bareAt streamAt bare
-bare-at ss s = List·getD-map bare ss (s .0) zeroStream
-
 -- a used stream stands below the end
 pub used-below : (ss : List Stream) (s : StreamNo) → bareUsed (bareAt (map bare ss) s) ≡ true → s .0 < length ss
 used-below ss s u = omega (arith, stream-in (map bare ss) s u, length-map ss bare)

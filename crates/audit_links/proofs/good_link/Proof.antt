@@ -1,13 +1,15 @@
--- `audit_links::used_link` meets its contract: each test is one part of what is asked.
+-- `audit_links::good_link` meets its contract: each test is one part of what is asked.
 use borrow.Author.Needs.{needs}
 use borrow.Author.Tests.{not-true, not-false}
-use Rattle.audit_links.proofs.used_link.Statement.{statement}
-use Rattle.audit_links.proofs.used_link.Tie as tie
+use Rattle.consistency.specs.Good.{goodLink}
+use Rattle.audit_links.proofs.good_link.Statement.{statement}
+use Rattle.audit_links.proofs.good_link.Tie as tie
 
 well-stored-requires : tie.Need-well-stored-requires
 well-stored-requires c κs = search needs
 
 returns : tie.Need-returns
+unfolding goodLink
 returns c =
     let s = c .before in
     rw (← s .well-stored .ensures, not-true (s .well-stored .result) (c .if1 .taken))
@@ -16,6 +18,7 @@ valid-stored-name-requires : tie.Need-valid-stored-name-requires
 valid-stored-name-requires c κs = search needs
 
 returns-2 : tie.Need-returns-2
+unfolding goodLink
 returns-2 c =
     let n = c .before in
     let s = n .before .before in
@@ -33,6 +36,7 @@ is-directory-requires : tie.Need-is-directory-requires
 is-directory-requires c κs = search needs
 
 returns-3 : tie.Need-returns-3
+unfolding goodLink
 returns-3 c =
     let u = c .before .before in
     let n = u .before .before in
@@ -48,6 +52,7 @@ returns-3 c =
     (c .is-directory .ensures)
 
 returns-4 : tie.Need-returns-4
+unfolding goodLink
 returns-4 c =
     let u = c .before in
     let n = u .before .before in
@@ -61,8 +66,8 @@ returns-4 c =
       c .if3 .left,
     )
 
-pub used-link-spec : {M : Type 1} → statement M
-used-link-spec =
+pub good-link-spec : {M : Type 1} → statement M
+good-link-spec =
     tie.close
     (tie.spec
     well-stored-requires

@@ -1,4 +1,4 @@
--- `audit_opens::all_rows_agree` meets its contract. The invariants: what is asked is what the rows from i on say;
+-- `audit_opens::all_handles_differ` meets its contract. The invariants: what is asked is what the rows from i on say;
 -- in a used row's own loop, that it agrees with the rows from j on, and what those after it say.
 use Prim.Native.Nat.{_-_, _+_}
 use mathlib.Core.Path.{_≡_, refl, sym, _∙_, ap}
@@ -10,26 +10,27 @@ use borrow.Author.Tests.{not-true, not-false}
 use borrow.Author.Needs.{needs}
 use Rattle.lists.specs.Lists.{all, keep, pairs}
 use Rattle.lists.proofs.Sweeps.{kept-past, all-kept-fails, all-kept-next, all-kept-end, pairs-kept, pairs-kept-end}
+use Rattle.records.specs.Sizes.{openSlots}
 use Rattle.records.specs.Slots.{openUsed, zeroOpen}
 use Rattle.records.proofs.Lengths.{rows-length}
+use Rattle.consistency.specs.Good.{handlesDiffer}
 use Rattle.consistency.specs.Relations.{live}
-use Rattle.audit_opens.proofs.OpensScan.{agree}
-use Rattle.audit_opens.proofs.all_rows_agree.Statement.{statement}
-use Rattle.audit_opens.proofs.all_rows_agree.Tie as tie
+use Rattle.audit_opens.proofs.all_handles_differ.Statement.{statement}
+use Rattle.audit_opens.proofs.all_handles_differ.Tie as tie
 
 abbrev Inv-loop2 : tie.InvT-loop2
 Inv-loop2 t i o j₀ j =
-    pairs agree (live (t .rows))
-    ≡ (all (agree o) (keep openUsed (drop j (t .rows))) && pairs agree (keep openUsed (drop (i + 1) (t .rows))))
+    pairs handlesDiffer (live (t .rows))
+    ≡ (all (handlesDiffer o) (keep openUsed (drop j (t .rows))) && pairs handlesDiffer (keep openUsed (drop (i + 1) (t .rows))))
 
 abbrev μ-loop2 : tie.MeasureT-loop2
-μ-loop2 t i o j₀ j = 256 - j
+μ-loop2 t i o j₀ j = openSlots - j
 
 abbrev Inv-loop : tie.InvT-loop
-Inv-loop t i₀ i = pairs agree (live (t .rows)) ≡ pairs agree (keep openUsed (drop i (t .rows)))
+Inv-loop t i₀ i = pairs handlesDiffer (live (t .rows)) ≡ pairs handlesDiffer (keep openUsed (drop i (t .rows)))
 
 abbrev μ-loop : tie.MeasureT-loop
-μ-loop t i₀ i = 256 - i
+μ-loop t i₀ i = openSlots - i
 
 loop-holds : tie.Need-loop-holds Inv-loop2 μ-loop2 Inv-loop μ-loop
 unfolding live
@@ -54,7 +55,7 @@ loop2-holds c =
     let rows = a .args .t1 .rows in
     let h = rows-length (a .args .t1) _ (a .good .0) in
     l .loop .inv
-    ∙ pairs-kept rows (l .loop .i) zeroOpen (omega arith) openUsed agree (sym (c .before .open-used .ensures) ∙ c .if1 .taken)
+    ∙ pairs-kept rows (l .loop .i) zeroOpen (omega arith) openUsed handlesDiffer (sym (c .before .open-used .ensures) ∙ c .if1 .taken)
 
 mul-q : tie.Need-mul-q Inv-loop2 μ-loop2 Inv-loop μ-loop
 mul-q c = search needs
@@ -65,8 +66,8 @@ element-copy-out-q c = search needs
 open-used-requires-2 : tie.Need-open-used-requires-2 Inv-loop2 μ-loop2 Inv-loop μ-loop
 open-used-requires-2 c κs = search needs
 
-rows-agree-requires : tie.Need-rows-agree-requires Inv-loop2 μ-loop2 Inv-loop μ-loop
-rows-agree-requires c κs = search needs
+handles-differ-requires : tie.Need-handles-differ-requires Inv-loop2 μ-loop2 Inv-loop μ-loop
+handles-differ-requires c κs = search needs
 
 returns : tie.Need-returns Inv-loop2 μ-loop2 Inv-loop μ-loop
 returns c =
@@ -78,10 +79,10 @@ returns c =
     let u = c .before .before .before in
     sym
     (m .loop2 .inv
-    ∙ ap (λ (b : Bool). b && pairs agree (keep openUsed (drop (l .loop .i + 1) rows)))
-    (all-kept-fails rows (m .loop2 .j) zeroOpen (omega arith) openUsed (agree (getD rows (l .loop .i) zeroOpen))
+    ∙ ap (λ (b : Bool). b && pairs handlesDiffer (keep openUsed (drop (l .loop .i + 1) rows)))
+    (all-kept-fails rows (m .loop2 .j) zeroOpen (omega arith) openUsed (handlesDiffer (getD rows (l .loop .i) zeroOpen))
     (sym (u .open-used2 .ensures) ∙ c .before .before .if2 .taken)
-    (sym (c .before .rows-agree .ensures) ∙ not-true _ (c .if3 .taken))))
+    (sym (c .before .handles-differ .ensures) ∙ not-true _ (c .if3 .taken))))
 
 add-j-2 : tie.Need-add-j-2 Inv-loop2 μ-loop2 Inv-loop μ-loop
 add-j-2 c = search needs
@@ -97,13 +98,13 @@ loop2-again c =
     let h = rows-length (a .args .t1) _ (a .good .0) in
     let m = c .before .before .before .before in
     m .loop2 .inv
-    ∙ ap (λ (b : Bool). b && pairs agree (keep openUsed (drop (l .loop .i + 1) rows)))
+    ∙ ap (λ (b : Bool). b && pairs handlesDiffer (keep openUsed (drop (l .loop .i + 1) rows)))
     (⊎-elim
     (λ w.
-    all-kept-next rows (m .loop2 .j) zeroOpen (omega arith) openUsed (agree (getD rows (l .loop .i) zeroOpen))
+    all-kept-next rows (m .loop2 .j) zeroOpen (omega arith) openUsed (handlesDiffer (getD rows (l .loop .i) zeroOpen))
     (sym (c .before .open-used2 .ensures) ∙ w .0 .taken) (sym (w .1 .ensures) ∙ not-false _ (w .2 .left)))
     (λ w.
-    ap (all (agree (getD rows (l .loop .i) zeroOpen)))
+    ap (all (handlesDiffer (getD rows (l .loop .i) zeroOpen)))
     (kept-past rows (m .loop2 .j) zeroOpen (omega arith) openUsed (sym (c .before .open-used2 .ensures) ∙ w .left)))
     (c .if2 .came))
 
@@ -122,11 +123,11 @@ loop-again c =
     ⊎-elim
     (λ w.
     w .1 .inv
-    ∙ ap (λ (b : Bool). b && pairs agree (keep openUsed (drop (l .loop .i + 1) rows)))
-    (all-kept-end rows (w .1 .j) (omega (arith, w .2 .left)) openUsed (agree (getD rows (l .loop .i) zeroOpen))))
+    ∙ ap (λ (b : Bool). b && pairs handlesDiffer (keep openUsed (drop (l .loop .i + 1) rows)))
+    (all-kept-end rows (w .1 .j) (omega (arith, w .2 .left)) openUsed (handlesDiffer (getD rows (l .loop .i) zeroOpen))))
     (λ w.
     l .loop .inv
-    ∙ ap (pairs agree) (kept-past rows (l .loop .i) zeroOpen (omega arith) openUsed (sym (c .before .open-used .ensures) ∙ w .left)))
+    ∙ ap (pairs handlesDiffer) (kept-past rows (l .loop .i) zeroOpen (omega arith) openUsed (sym (c .before .open-used .ensures) ∙ w .left)))
     (c .if1 .came)
 
 returns-2 : tie.Need-returns-2 Inv-loop2 μ-loop2 Inv-loop μ-loop
@@ -135,10 +136,10 @@ returns-2 c =
     let a = l .before in
     let rows = a .args .t1 .rows in
     let h = rows-length (a .args .t1) _ (a .good .0) in
-    sym (l .loop .inv ∙ pairs-kept-end rows (l .loop .i) (omega arith) openUsed agree)
+    sym (l .loop .inv ∙ pairs-kept-end rows (l .loop .i) (omega arith) openUsed handlesDiffer)
 
-pub all-rows-agree-spec : {M : Type 1} → statement M
-all-rows-agree-spec =
+pub all-handles-differ-spec : {M : Type 1} → statement M
+all-handles-differ-spec =
     tie.close
     (tie.spec
     Inv-loop2
@@ -154,7 +155,7 @@ all-rows-agree-spec =
     mul-q
     element-copy-out-q
     open-used-requires-2
-    rows-agree-requires
+    handles-differ-requires
     returns
     add-j-2
     loop2-less

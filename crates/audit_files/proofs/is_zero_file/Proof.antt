@@ -1,24 +1,24 @@
--- `audit_files::free_file` meets its contract: the code is the definition.
+-- `audit_files::is_zero_file` meets its contract: the code is the definition.
 use borrow.Author.Needs.{needs}
 use borrow.Author.Tests.{eq-eqb, ne-eqb}
-use Rattle.consistency.specs.Test.{freeFile}
-use Rattle.audit_files.proofs.free_file.Statement.{statement}
-use Rattle.audit_files.proofs.free_file.Tie as tie
+use Rattle.consistency.specs.Good.{isZeroFile}
+use Rattle.audit_files.proofs.is_zero_file.Statement.{statement}
+use Rattle.audit_files.proofs.is_zero_file.Tie as tie
 
 zero-masks-requires : tie.Need-zero-masks-requires
 zero-masks-requires c κs = search needs
 
 returns : tie.Need-returns
-unfolding freeFile
+unfolding isZeroFile
 returns c =
     let a = c .before .before .before .before .args in
     rw (eq-eqb (a .f .attributes) 0 (c .before .if1 .taken)) (c .zero-masks .ensures)
 
 returns-2 : tie.Need-returns-2
-unfolding freeFile
+unfolding isZeroFile
 returns-2 c =
     let a = c .before .before .before .args in
     rw (ne-eqb (a .f .attributes) 0 (c .if1 .left))
 
-pub free-file-spec : {M : Type 1} → statement M
-free-file-spec = tie.close (tie.spec zero-masks-requires returns returns-2)
+pub is-zero-file-spec : {M : Type 1} → statement M
+is-zero-file-spec = tie.close (tie.spec zero-masks-requires returns returns-2)

@@ -1,17 +1,16 @@
--- `audit_files::used_file` meets its contract: each test is one part of the definition.
+-- `audit_files::good_file` meets its contract: each test is one part of the definition.
 use mathlib.Core.Bool.{Bool·beq}
 use borrow.Author.Needs.{needs}
 use borrow.Author.Tests.{not-true, not-false}
-use Rattle.consistency.specs.Test.{usedFile}
-use Rattle.audit_files.proofs.FilesScan.{same-beq}
-use Rattle.audit_files.proofs.used_file.Statement.{statement}
-use Rattle.audit_files.proofs.used_file.Tie as tie
+use Rattle.consistency.specs.Good.{goodFile}
+use Rattle.audit_files.proofs.good_file.Statement.{statement}
+use Rattle.audit_files.proofs.good_file.Tie as tie
 
 within-requires : tie.Need-within-requires
 within-requires c κs = search needs
 
 returns : tie.Need-returns
-unfolding usedFile
+unfolding goodFile
 returns c =
     let w = c .before in
     rw (← w .within .ensures, not-true (w .within .result) (c .if1 .taken))
@@ -23,7 +22,7 @@ is-directory-requires : tie.Need-is-directory-requires
 is-directory-requires c κs = search needs
 
 returns-2 : tie.Need-returns-2
-unfolding usedFile
+unfolding goodFile
 returns-2 c =
     let d = c .before in
     let h = d .before in
@@ -33,7 +32,6 @@ returns-2 c =
       not-false (w .within .result) (h .before .if1 .left),
       ← h .has .ensures,
       ← d .is-directory .ensures,
-      same-beq (h .has .result) (d .is-directory .result),
       not-true (Bool·beq (h .has .result) (d .is-directory .result)) (c .if2 .taken),
     )
 
@@ -41,7 +39,7 @@ valid-masks-requires : tie.Need-valid-masks-requires
 valid-masks-requires c κs = search needs
 
 returns-3 : tie.Need-returns-3
-unfolding usedFile
+unfolding goodFile
 returns-3 c =
     let d = c .before .before .before in
     let h = d .before in
@@ -51,13 +49,12 @@ returns-3 c =
       not-false (w .within .result) (h .before .if1 .left),
       ← h .has .ensures,
       ← d .is-directory .ensures,
-      same-beq (h .has .result) (d .is-directory .result),
       not-false (Bool·beq (h .has .result) (d .is-directory .result)) (c .before .before .if2 .left),
     )
     (c .valid-masks .ensures)
 
-pub used-file-spec : {M : Type 1} → statement M
-used-file-spec =
+pub good-file-spec : {M : Type 1} → statement M
+good-file-spec =
     tie.close
     (tie.spec
     within-requires

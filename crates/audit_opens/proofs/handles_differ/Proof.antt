@@ -1,0 +1,12 @@
+-- `audit_opens::handles_differ` meets its contract: the code is the definition.
+use mathlib.Core.Path.{refl}
+use Rattle.audit_opens.proofs.handles_differ.Statement.{statement}
+use Rattle.consistency.specs.Good.{handlesDiffer}
+use Rattle.audit_opens.proofs.handles_differ.Tie as tie
+
+returns : tie.Need-returns
+unfolding handlesDiffer
+returns c = refl
+
+pub handles-differ-spec : {M : Type 1} → statement M
+handles-differ-spec = tie.close (tie.spec returns)

@@ -1,0 +1,31 @@
+-- What the tests on a file's links and streams decide.
+use Prim.Native.Nat.{ℕ}
+use mathlib.Core.Path.{_≡_, ap}
+use mathlib.Core.Bool.{true}
+use mathlib.Core.List.{List, []}
+use mathlib.Core.Logic.{_↔_}
+use Rattle.lists.specs.Lists.{isEmpty}
+use Rattle.lists.proofs.Tests.{and-iff, empty-is}
+use Rattle.records.specs.Slots.{linkUsed}
+use Rattle.records.specs.Namespace.{BareStream, bareUsed}
+use Rattle.records.specs.declared.FileNo.{FileNo}
+use Rattle.records.specs.declared.Link.{Link}
+use Rattle.stored_names.specs.StoredNames.{units}
+use Rattle.consistency.specs.Relations.{linkTo, streamOf, unnamedOf}
+use Rattle.consistency.proofs.Numbered.{file-iff}
+
+pub link-to-iff : (f : FileNo) (l : Link) → (linkTo f l ≡ true) ↔ ((linkUsed l ≡ true) × (l .file ≡ f))
+unfolding linkTo
+link-to-iff f l = (λ h. simp (linkTo, and-iff, file-iff) at h, λ h. simp (linkTo, and-iff, file-iff) h)
+
+pub stream-of-iff : (f : FileNo) (s : BareStream) → (streamOf f s ≡ true) ↔ ((bareUsed s ≡ true) × (s .file ≡ f))
+unfolding streamOf
+stream-of-iff f s = (λ h. simp (streamOf, and-iff, file-iff) at h, λ h. simp (streamOf, and-iff, file-iff) h)
+
+empty-iff : (xs : List ℕ) → (isEmpty xs ≡ true) ↔ (xs ≡ [])
+unfolding isEmpty
+empty-iff xs = (empty-is xs, λ e. ap isEmpty e)
+
+pub unnamed-iff : (f : FileNo) (s : BareStream) → (unnamedOf f s ≡ true) ↔ ((streamOf f s ≡ true) × (units (s .name) ≡ []))
+unfolding unnamedOf
+unnamed-iff f s = (λ h. simp (unnamedOf, and-iff, empty-iff) at h, λ h. simp (unnamedOf, and-iff, empty-iff) h)
