@@ -1,7 +1,7 @@
 -- The worked cases hold, by evaluation of the definitions.
 use mathlib.Core.Path.{refl}
 use Rattle.store.specs.Evaluate.{computes, storeRun, modelRun}
-use Rattle.store.specs.Cases.{attributesOf, sevenCounts, observed, expected, Hold, workedCases, furtherCases, stepCases, statusAfter, StepsHold, namesWith, statusOf, limited, LimitsHold}
+use Rattle.store.specs.Cases.{attributesOf, sevenCounts, observed, expected, Hold, workedCases, furtherCases}
 
 pub worked-cases : Hold workedCases
 unfolding computes storeRun modelRun attributesOf sevenCounts observed expected
@@ -10,11 +10,3 @@ worked-cases = refl
 pub further-cases : Hold furtherCases
 unfolding computes storeRun modelRun attributesOf sevenCounts observed expected
 further-cases = refl
-
-pub step-cases : StepsHold
-unfolding computes modelRun statusAfter
-step-cases = refl
-
-pub limit-cases : LimitsHold
-unfolding computes namesWith statusOf limited
-limit-cases = refl

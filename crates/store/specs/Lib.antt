@@ -8,4 +8,5 @@ pub mod Model
 pub mod Calls
 pub mod Evaluate
 pub mod Cases
+pub mod StepCases
 pub mod Sequences

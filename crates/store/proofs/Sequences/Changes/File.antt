@@ -26,7 +26,6 @@ use Rattle.store.proofs.Sequences.Changes.NewStream.{StreamMade, named-
 use Rattle.store.proofs.Sequences.Changes.Relations.{link-name-new}
 use Rattle.store.proofs.Sequences.Changes.Streams.{kept-both, stream-kept, stream-there, streams-with}
 use Rattle.store.proofs.Sequences.Facts.{Early, FileFits, NamespaceConsistent, PlacedWell, StreamsKept}
-use Rattle.store.specs.Cases.{after}
 use Rattle.store.specs.Complete.{changed, linkNew, place, placeFile, placeStreams, streamNew}
 use Rattle.store.specs.Prepare.{newFile}
 use Rattle.tables.specs.Tables.{fileAt}

@@ -1,0 +1,114 @@
+-- The step cases hold, by evaluation of the definitions.
+use mathlib.Core.Path.{refl}
+use Rattle.store.specs.StepCases.Form.{expected, failing, Hold}
+use Rattle.store.specs.StepCases.Parameters.{parameterCases, outsideCases, accessBitCases}
+use Rattle.store.specs.StepCases.Names.{pathCases, nameCases, namesAlone, NamesAloneHold}
+use Rattle.store.specs.StepCases.Lookups.{readOnlyCases, lookupCases, typeCases}
+use Rattle.store.specs.StepCases.NewFiles.{newFileCases, parentCases}
+use Rattle.store.specs.StepCases.Directories.{directoryCases, shareReadCases}
+use Rattle.store.specs.StepCases.Streams.{foundCases, gainedCases, missingCases}
+use Rattle.store.specs.StepCases.Rules.{accessCases, sharingCases}
+use Rattle.store.specs.StepCases.Resources.{tables, sparse, resourceCases, slotCases}
+use Rattle.store.specs.StepCases.Calls.{callCases}
+use Rattle.store.specs.StepCases.Shares.{expectedShares, SharesHold, shareCases}
+use Rattle.store.specs.StepCases.Tables.{expectedTables, TablesHold, corruptCases, formatCases, runCases}
+
+pub parameter-cases : Hold parameterCases
+unfolding expected failing
+parameter-cases = refl
+
+pub outside-cases : Hold outsideCases
+unfolding expected failing
+outside-cases = refl
+
+pub access-bit-cases : Hold accessBitCases
+unfolding expected failing
+access-bit-cases = refl
+
+pub path-cases : Hold pathCases
+unfolding expected failing
+path-cases = refl
+
+pub name-cases : Hold nameCases
+unfolding expected failing
+name-cases = refl
+
+pub names-alone : NamesAloneHold
+unfolding expected namesAlone
+names-alone = refl
+
+pub read-only-cases : Hold readOnlyCases
+unfolding expected failing
+read-only-cases = refl
+
+pub lookup-cases : Hold lookupCases
+unfolding expected failing
+lookup-cases = refl
+
+pub type-cases : Hold typeCases
+unfolding expected failing
+type-cases = refl
+
+pub new-file-cases : Hold newFileCases
+unfolding expected failing
+new-file-cases = refl
+
+pub parent-cases : Hold parentCases
+unfolding expected failing
+parent-cases = refl
+
+pub directory-cases : Hold directoryCases
+unfolding expected failing
+directory-cases = refl
+
+pub share-read-cases : Hold shareReadCases
+unfolding expected failing
+share-read-cases = refl
+
+pub found-cases : Hold foundCases
+unfolding expected failing
+found-cases = refl
+
+pub gained-cases : Hold gainedCases
+unfolding expected failing
+gained-cases = refl
+
+pub missing-cases : Hold missingCases
+unfolding expected failing
+missing-cases = refl
+
+pub resource-cases : Hold resourceCases
+unfolding expected failing tables
+resource-cases = refl
+
+pub slot-cases : Hold slotCases
+unfolding expected failing sparse
+slot-cases = refl
+
+pub access-cases : Hold accessCases
+unfolding expected failing
+access-cases = refl
+
+pub sharing-cases : Hold sharingCases
+unfolding expected failing
+sharing-cases = refl
+
+pub share-cases : SharesHold shareCases
+unfolding expectedShares failing
+share-cases = refl
+
+pub call-cases : Hold callCases
+unfolding expected failing
+call-cases = refl
+
+pub corrupt-cases : TablesHold corruptCases
+unfolding expectedTables failing
+corrupt-cases = refl
+
+pub format-cases : TablesHold formatCases
+unfolding expectedTables failing
+format-cases = refl
+
+pub run-cases : TablesHold runCases
+unfolding expectedTables failing
+run-cases = refl
