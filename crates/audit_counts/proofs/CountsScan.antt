@@ -1,85 +1,64 @@
--- The opens counted in one pass: the counts of every stream, of the rows from a place on.
-use Prim.Native.Nat.{ℕ, _-_, _≤_, _<_}
+-- The opens counted in one pass: the counts of every stream, by its number, of the rows from a place on.
+use Prim.Native.Nat.{ℕ, _≤_, _<_}
 use mathlib.Core.Path.{_≡_, refl, sym, _∙_, ap}
 use mathlib.Core.Bool.{Bool, true, false}
-use mathlib.Core.List.{List}
-use mathlib.Core.Logic.{_⊎_, inl, inr, ⊎-elim}
+use mathlib.Core.List.{List, _∷_}
 use native.Mathlib.Omega.{arith}
-use lib.Dec.{eqb}
-use lib.ListN.{length, getD, set, replicate, getD-replicate}
-use lib.Seq.{getD-set-same, getD-set-other}
-use borrow.Author.Tests.{eq-eqb, ne-eqb, eqb-true, eqb-false}
-use Rattle.lists.specs.Lists.{allFrom}
-use Rattle.lists.proofs.Default.{getD-default}
-use Rattle.lists.proofs.Sweeps.{numbered-same}
+use lib.ListN.{length, getD, drop, replicate, drop-of-length-le, getD-replicate}
+use borrow.Author.Tests.{eq-eqb}
+use Rattle.lists.specs.Lists.{allFrom, count, keep}
+use Rattle.lists.proofs.Tests.{by-cases}
+use Rattle.lists.proofs.All.{numbered-same}
+use Rattle.lists.proofs.Count.{count-bound}
+use Rattle.lists.proofs.Keep.{keep-yes, keep-no, length-keep}
+use Rattle.lists.proofs.Keyed.{Noted, keyed}
 use Rattle.records.specs.Slots.{openUsed, zeroCounts}
 use Rattle.records.specs.declared.Open.{Open}
 use Rattle.records.specs.declared.ShareCounts.{ShareCounts}
 use Rattle.records.specs.declared.StreamNo.{StreamNo}
 use Rattle.records.specs.declared.Stream.{Stream}
-use Rattle.sharing.specs.Sharing.{onStream, countsOf}
+use Rattle.sharing.specs.Sharing.{onStream, countsOf, countsOfAll}
 use Rattle.sharing.specs.Saturating.{withOpenUpTo}
-use Rattle.audit_counts.proofs.Rows.{countsFrom, from-end, from-start, row-counted, row-passed}
+use Rattle.sharing.proofs.Counts.{counts-cons, counts-skip}
+use Rattle.sharing.proofs.UpTo.{up-to-counts}
 use Rattle.consistency.specs.Relations.{live}
 use Rattle.consistency.specs.Test.{sameCounts, countsTest}
 
--- the stream with a number
+-- the stream with a number, that of an open, and what rows say of it: the counts of its live opens
 abbrev stream : ℕ → StreamNo
 stream n = record { 0 = n }
 
-module _ (rows : List Open) where
-  -- `cs` has the counts of each of `size` streams, of the rows from place i on
-  abbrev pub Counted : ℕ → List ShareCounts → ℕ → Type 0
-  Counted size cs i = (n : ℕ) → n < size → getD cs n zeroCounts ≡ countsFrom (stream n) rows i
+abbrev pub streamNo : Open → ℕ
+streamNo o = o .stream .0
 
-  pub none-counted : (size i : ℕ) → length rows ≤ i → Counted size (replicate size zeroCounts) i
-  none-counted size i h n b = getD-replicate size n zeroCounts zeroCounts b ∙ sym (from-end (stream n) rows i h)
+abbrev pub countsOn : ℕ → List Open → ShareCounts
+countsOn n rows = countsOf (stream n) (live rows)
 
-  pub all-counted : (size : ℕ) (cs : List ShareCounts) → Counted size cs 0 → (n : ℕ) → n < size
-      → getD cs n zeroCounts ≡ countsOf (stream n) (live rows)
-  unfolding live
-  all-counted size cs h n b = h n b ∙ from-start (stream n) rows
+-- from the end on there is none
+pub none-counted : (size : ℕ) (rows : List Open) (i : ℕ) → length rows ≤ i
+    → Noted zeroCounts size (replicate size zeroCounts) (λ n. countsOn n (drop i rows))
+unfolding live keep countsOf countsOfAll count
+none-counted size rows i h n b =
+    getD-replicate size n zeroCounts zeroCounts b ∙ sym (ap (countsOn n) (drop-of-length-le rows h))
 
-  module _ (size : ℕ) (cs : List ShareCounts) (i : ℕ) (d : Open) (positive : 0 < i) (within : i ≤ length rows)
-      (counted : Counted size cs i) where
-    abbrev row : Open
-    row = getD rows (i - 1) d
+-- a used row is one open more of the stream that it names
+pub counts-own : (limit : ℕ) (o : Open) (os : List Open) → openUsed o ≡ true → length os < limit
+    → countsOn (streamNo o) (o ∷ os) ≡ withOpenUpTo limit o (countsOn (streamNo o) os)
+unfolding live onStream
+counts-own limit o os u h =
+    ap (countsOf (o .stream)) (keep-yes openUsed o os u)
+    ∙ counts-cons (o .stream) o (keep openUsed os) (eq-eqb (streamNo o) (streamNo o) refl)
+    ∙ sym (up-to-counts limit (length os) h o (o .stream) (keep openUsed os)
+    (omega (arith, length-keep openUsed os, count-bound openUsed os)))
 
-    elsewhere : (n : ℕ) → (n ≡ row .stream .0 → ⊥) → onStream (stream n) row ≡ false
-    unfolding onStream
-    elsewhere n e = ne-eqb (row .stream .0) n (λ q. e (sym q))
-
-    -- a used row is one open more of the stream that it names
-    pub row-adds : (limit : ℕ) → length rows < limit → openUsed row ≡ true → length cs ≡ size → row .stream .0 < size
-        → (e : ShareCounts) {more : ShareCounts} → more ≡ withOpenUpTo limit row (getD cs (row .stream .0) e)
-        → Counted size (set cs (row .stream .0) more) (i - 1)
-    unfolding onStream
-    row-adds limit h u l below e {more} added n b = go (eqb n (row .stream .0)) refl
-      where
-        here : n ≡ row .stream .0 → getD (set cs (row .stream .0) more) n zeroCounts ≡ countsFrom (stream n) rows (i - 1)
-        here q =
-            ap (λ (m : ℕ). getD (set cs (row .stream .0) more) m zeroCounts) q
-            ∙ getD-set-same cs (row .stream .0) more zeroCounts (omega arith)
-            ∙ added
-            ∙ ap (withOpenUpTo limit row)
-            (getD-default cs (row .stream .0) e zeroCounts (omega arith) ∙ ap (λ (m : ℕ). getD cs m zeroCounts) (sym q) ∙ counted n b)
-            ∙ sym (row-counted (stream n) rows i d positive within limit h u (eq-eqb (row .stream .0) n (sym q)))
-
-        go : (t : Bool) → eqb n (row .stream .0) ≡ t
-            → getD (set cs (row .stream .0) more) n zeroCounts ≡ countsFrom (stream n) rows (i - 1)
-        go true q = here (eqb-true n (row .stream .0) q)
-        go false q =
-            getD-set-other cs (row .stream .0) n more zeroCounts (eqb-false n (row .stream .0) q)
-            ∙ counted n b
-            ∙ sym (row-passed (stream n) rows i d positive within (inr (elsewhere n (eqb-false n (row .stream .0) q))))
-
-    -- a free one, or one that names no slot, is passed over
-    pub row-adds-none : (openUsed row ≡ false) ⊎ (size ≤ row .stream .0) → Counted size cs (i - 1)
-    row-adds-none w n b =
-        counted n b
-        ∙ sym
-        (row-passed (stream n) rows i d positive within
-        (⊎-elim (λ e. inl e) (λ e. inr (elsewhere n (λ q. let z : ⊥ = omega arith in z))) w))
+-- and of no other
+pub counts-other : (n : ℕ) (o : Open) (os : List Open) → keyed streamNo openUsed n o ≡ false
+    → countsOn n (o ∷ os) ≡ countsOn n os
+unfolding live onStream
+counts-other n o os e =
+    by-cases (openUsed o)
+    (λ u. ap (countsOf (stream n)) (keep-yes openUsed o os u) ∙ counts-skip (stream n) o (keep openUsed os) (rw u at e))
+    (λ u. ap (countsOf (stream n)) (keep-no openUsed o os u))
 
 -- a stream's counts against those found
 abbrev pub foundTest : List ShareCounts → ℕ → Stream → Bool

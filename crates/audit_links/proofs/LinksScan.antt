@@ -9,8 +9,8 @@ use lib.Dec.{eqb}
 use lib.ListN.{length, getD, replicate}
 use borrow.Author.Tests.{not-false, eqb-true, eq-eqb, ne-eqb}
 use Rattle.lists.specs.Lists.{same}
-use Rattle.lists.proofs.Default.{getD-default}
-use Rattle.lists.proofs.Slots.{refuted}
+use Rattle.lists.proofs.Tests.{refuted}
+use Rattle.lists.proofs.Places.{getD-default}
 use Rattle.stored_names.specs.StoredNames.{units, wellStored}
 use Rattle.records.specs.Sizes.{fileSlots, fileNameLimit}
 use Rattle.records.specs.Slots.{fileUsed, linkUsed, zeroFile}

@@ -9,7 +9,7 @@ use lib.Dec.{eqb, eqb·suc-zero}
 use lib.ListN.{length, getD, take, drop, replicate, length-append}
 use lib.Seq.{take-append-seam}
 use Rattle.lists.specs.Lists.{all, same, isEmpty, padded}
-use Rattle.lists.proofs.Scan.{same-differs, same-append}
+use Rattle.lists.proofs.Same.{same-differs, same-append}
 use Rattle.stored_names.specs.StoredNames.{units, wellStored}
 use Rattle.stored_names.proofs.NameUnits.{units-end}
 

@@ -8,8 +8,8 @@ use native.Mathlib.Omega.{arith}
 use lib.ListN.{length, getD, length-map, List·getD-map}
 use borrow.Author.Tests.{eq-eqb, le-leb}
 use Rattle.lists.specs.Lists.{all, pairs}
-use Rattle.lists.proofs.Default.{getD-default}
-use Rattle.lists.proofs.Slots.{refuted}
+use Rattle.lists.proofs.Tests.{refuted}
+use Rattle.lists.proofs.Places.{getD-default}
 use Rattle.records.specs.Sizes.{openSlots}
 use Rattle.records.specs.Slots.{openUsed}
 use Rattle.records.specs.Namespace.{BareStream, zeroBare, bareAt, bare}

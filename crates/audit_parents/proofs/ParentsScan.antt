@@ -1,18 +1,16 @@
 -- What the audit notes of each file in a pass over the links, from the last to the first, in a table by file numbers.
-use Prim.Native.Nat.{ℕ, zero, suc, _+_, _-_, _≤_, _<_}
+use Prim.Native.Nat.{ℕ, zero, suc, _-_, _<_}
 use mathlib.Core.Path.{_≡_, refl, sym, ap, _∙_}
 use mathlib.Core.Bool.{Bool, true, false, cond, _&&_}
 use mathlib.Core.List.{List, [], _∷_}
-use mathlib.Core.Logic.{_⊎_, ⊎-elim}
 use native.Mathlib.Omega.{arith}
 use lib.Dec.{eqb}
-use lib.ListN.{length, getD, set, drop}
+use lib.ListN.{length}
 use borrow.Author.Tests.{eq-eqb, ne-eqb}
 use Rattle.lists.specs.Lists.{all, count, keep}
-use Rattle.lists.proofs.Tests.{not-both, and-left, and-right}
-use Rattle.lists.proofs.Set.{set-cases}
-use Rattle.lists.proofs.Keep.{count-yes, count-no}
-use Rattle.lists.proofs.Passes.{drop-back}
+use Rattle.lists.proofs.Tests.{by-cases, and-left, and-right}
+use Rattle.lists.proofs.Count.{count-yes, count-no}
+use Rattle.lists.proofs.Keyed.{keyed, keyed-own}
 use Rattle.records.specs.Sizes.{fileSlots}
 use Rattle.records.specs.Slots.{fileUsed, linkUsed}
 use Rattle.records.specs.declared.FileNo.{FileNo}
@@ -23,67 +21,39 @@ use Rattle.consistency.specs.Slots.{slotTest}
 use Rattle.consistency.specs.Good.{isZeroLink}
 use Rattle.consistency.specs.Test.{goodLinkOf, linksOfFile}
 use Rattle.consistency.proofs.Slots.{slot-good}
-use Rattle.consistency.proofs.Numbered.{same-file, fails-iff, file-in, directory-file}
+use Rattle.consistency.proofs.Numbered.{same-file, file-in, directory-file}
 use Rattle.consistency.proofs.Relations.{link-to-iff}
 use Rattle.consistency.proofs.Links.{link-decides}
-use Rattle.consistency.proofs.Parents.{links-kept, reaches-kept}
+use Rattle.consistency.proofs.Parents.{links-kept, parent-here, parent-next, reaches-kept}
 
--- a link names the file, or not
-pub names-it : (f : FileNo) (l : Link) → linkUsed l ≡ true → f .0 ≡ l .file .0 → linkTo f l ≡ true
-names-it f l u e = link-to-iff f l .1 (u, same-file (l .file) f (sym e))
+-- the number of the file that a link names; and what links say of a file's number: how many name it, and its parent
+abbrev pub fileOf : Link → ℕ
+fileOf l = l .file .0
 
-pub names-other : (f : FileNo) (l : Link) → (f .0 ≡ l .file .0 → ⊥) → linkTo f l ≡ false
-names-other f l n = fails-iff (link-to-iff f l) .1 (λ h. n (sym (ap (λ (g : FileNo). g .0) (h .1))))
+abbrev pub linksTo : ℕ → List Link → ℕ
+linksTo n ls = count (linkTo (record { 0 = n })) ls
 
-pub free-names : (f : FileNo) (l : Link) → linkUsed l ≡ false → linkTo f l ≡ false
-free-names f l u = fails-iff (link-to-iff f l) .1 (λ h. not-both (h .0) u)
+abbrev pub above : ℕ → List Link → ℕ
+above n ls = parentOf ls (record { 0 = n }) .0
 
--- a table has, for each file, what the links say of it
-abbrev pub Noted : (FileNo → List Link → ℕ) → List ℕ → List Link → Type 0
-Noted what xs ls = (f : FileNo) → f .0 < fileSlots → getD xs (f .0) 0 ≡ what f ls
+module _ (l : Link) (ls : List Link) (u : linkUsed l ≡ true) where
+  pub count-own : linksTo (fileOf l) (l ∷ ls) ≡ suc (linksTo (fileOf l) ls)
+  unfolding linkTo
+  count-own = count-yes (linkTo (l .file)) l ls (keyed-own fileOf linkUsed l u)
 
--- what a link says of one file only: of a file that it does not name it says nothing
-module _ (what : FileNo → List Link → ℕ)
-    (other : (f : FileNo) (l : Link) (ls : List Link) → linkTo f l ≡ false → what f (l ∷ ls) ≡ what f ls)
-    (xs : List ℕ) (ls : List Link) (i : ℕ) (d : Link) (positive : 0 < i) (inside : i ≤ length ls) where
-  -- one link more, which names no file of the table
-  pub noted-skip : Noted what xs (drop i ls)
-      → (linkUsed (getD ls (i - 1) d) ≡ false) ⊎ (fileSlots ≤ getD ls (i - 1) d .file .0) → Noted what xs (drop (i - 1) ls)
-  noted-skip n s f h =
-      n f h
-      ∙ sym (other f (getD ls (i - 1) d) (drop i ls)
-      (⊎-elim (λ u. free-names f (getD ls (i - 1) d) u)
-      (λ b. names-other f (getD ls (i - 1) d) (λ e. let z : ⊥ = omega arith in z)) s))
-      ∙ ap (what f) (sym (drop-back ls i d positive inside))
+  pub parent-own : above (fileOf l) (l ∷ ls) ≡ l .parent .0
+  unfolding linkTo
+  parent-own = ap (λ (f : FileNo). f .0) (parent-here (l .file) l ls (keyed-own fileOf linkUsed l u))
 
-  -- one link more, of which y is noted at its file
-  pub noted-set : Noted what xs (drop i ls) → (y : ℕ) → length xs ≡ fileSlots → getD ls (i - 1) d .file .0 < fileSlots
-      → ((f : FileNo) → f .0 ≡ getD ls (i - 1) d .file .0 → y ≡ what f (getD ls (i - 1) d ∷ drop i ls))
-      → Noted what (set xs (getD ls (i - 1) d .file .0) y) (drop (i - 1) ls)
-  noted-set n y k b w f h =
-      ⊎-elim (λ e. e .1 ∙ w f (e .0))
-      (λ e. e .1 ∙ n f h ∙ sym (other f (getD ls (i - 1) d) (drop i ls) (names-other f (getD ls (i - 1) d) (e .0))))
-      (set-cases xs (getD ls (i - 1) d .file .0) (f .0) y 0 (omega arith))
-      ∙ ap (what f) (sym (drop-back ls i d positive inside))
+-- a link that doesn't name the file says nothing of it
+module _ (n : ℕ) (l : Link) (ls : List Link) (e : keyed fileOf linkUsed n l ≡ false) where
+  pub count-other : linksTo n (l ∷ ls) ≡ linksTo n ls
+  unfolding linkTo
+  count-other = count-no (linkTo (record { 0 = n })) l ls e
 
--- how many links a file has, and its parent, as such notes
-pub count-other : (f : FileNo) (l : Link) (ls : List Link) → linkTo f l ≡ false → count (linkTo f) (l ∷ ls) ≡ count (linkTo f) ls
-count-other f l ls e = count-no (linkTo f) l ls e
-
-pub parent-other : (f : FileNo) (l : Link) (ls : List Link) → linkTo f l ≡ false → parentOf (l ∷ ls) f .0 ≡ parentOf ls f .0
-unfolding parentOf
-parent-other f l ls e = rw (e, parentOf)
-
-pub parent-here : (f : FileNo) (l : Link) (ls : List Link) → linkTo f l ≡ true → parentOf (l ∷ ls) f .0 ≡ l .parent .0
-unfolding parentOf
-parent-here f l ls e = rw (e, parentOf)
-
--- one link more: the number that stands at its file goes up by one
-pub count-more : (xs : List ℕ) (l : Link) (ls : List Link) → linkUsed l ≡ true → l .file .0 < fileSlots
-    → Noted (λ f ms. count (linkTo f) ms) xs ls
-    → (f : FileNo) → f .0 ≡ l .file .0 → getD xs (l .file .0) 0 + 1 ≡ count (linkTo f) (l ∷ ls)
-count-more xs l ls u b n f e =
-    omega (arith, ap (λ (k : ℕ). getD xs k 0) e, n f (omega arith), count-yes (linkTo f) l ls (names-it f l u e))
+  pub parent-other : above n (l ∷ ls) ≡ above n ls
+  unfolding linkTo
+  parent-other = ap (λ (f : FileNo). f .0) (parent-next (record { 0 = n }) l ls e)
 
 -- where each link passes its test, a parent is no further than the files
 module _ (fs : List File) where
@@ -97,13 +67,11 @@ module _ (fs : List File) where
   unfolding all parentOf
   parent-in [] h f b = b
   parent-in (l ∷ ls) h f b =
-      go (linkTo f l) refl (parent-in ls (and-right (linkTest l) (all linkTest ls) h) f b)
-    where
-      go : (t : Bool) → linkTo f l ≡ t → parentOf ls f .0 < length fs → parentOf (l ∷ ls) f .0 < length fs
-      go true e k =
-          let z = parent-there l (link-to-iff f l .0 e .0) (and-left (linkTest l) (all linkTest ls) h) in
-          omega (arith, parent-here f l ls e)
-      go false e k = omega (arith, parent-other f l ls e)
+      let k = parent-in ls (and-right (linkTest l) (all linkTest ls) h) f b in
+      by-cases (linkTo f l)
+      (λ e.
+      rw (parent-here f l ls e) (parent-there l (link-to-iff f l .0 e .0) (and-left (linkTest l) (all linkTest ls) h)))
+      (λ e. rw (parent-next f l ls e) k)
 
 -- a file's test, over all the links: the free ones do not matter
 pub unused-passes : (ls : List Link) (n : ℕ) (f : File) → fileUsed f ≡ false → linksOfFile ls n f ≡ true

@@ -4,18 +4,22 @@ use Prim.Native.Nat.{ℕ, _+_, _≤_, _<_}
 use mathlib.Core.Path.{_≡_, refl, sym, _∙_, ap}
 use mathlib.Core.Bool.{Bool, true, false, cond, not, _&&_, _||_}
 use mathlib.Core.List.{List, map}
-use mathlib.Core.Logic.{_⊎_, inl, inr, ⊎-elim}
+use mathlib.Core.Logic.{_⊎_, ⊎-elim}
 use native.Mathlib.Omega.{arith}
 use lib.Dec.{eqb}
-use lib.ListN.{length, getD, set, replicate, length-map, length-replicate, length-set}
+use lib.ListN.{length, getD, set, take, replicate, length-map, length-replicate, length-set, length-take, getD-replicate}
+use lib.Seq.{take-all}
 use borrow.Author.Tests.{eq-eqb}
 use Rattle.lists.specs.Lists.{all, allFrom, count, isEmpty, keep, pairs, same}
-use Rattle.lists.proofs.Default.{getD-default}
-use Rattle.lists.proofs.Slots.{refuted}
-use Rattle.lists.proofs.Keep.{count-same}
-use Rattle.lists.proofs.Sweeps.{all-map, pairs-map, keep-map, count-map, numbered-same, keyed, ones, KeyedCounts, keyed-start, keyed-done, keyed-fits, keyed-adds, keyed-skips}
+use Rattle.lists.proofs.Tests.{refuted, one}
+use Rattle.lists.proofs.Places.{getD-default}
+use Rattle.lists.proofs.All.{all-map, numbered-same}
+use Rattle.lists.proofs.Count.{count-bound, count-map}
+use Rattle.lists.proofs.Keep.{keep-map}
+use Rattle.lists.proofs.Pairs.{pairs-map}
+use Rattle.lists.proofs.Keyed.{Noted, keyed, keyed-own, front-skip, front-add}
 use Rattle.stored_names.specs.StoredNames.{units}
-use Rattle.records.specs.Sizes.{streamSlots}
+use Rattle.records.specs.Sizes.{fileSlots, streamSlots}
 use Rattle.records.specs.Slots.{isDirectory, fileUsed, streamUsed, zeroFile}
 use Rattle.tables.specs.Tables.{fileAt}
 use Rattle.records.specs.Namespace.{BareStream, bareUsed, bare}
@@ -73,117 +77,79 @@ file n = record { 0 = n }
 abbrev pub fileOf : Stream → ℕ
 fileOf s = s .file .0
 
-abbrev pub emptyUsed : Stream → Bool
-emptyUsed s = streamUsed s && isEmpty (units (s .name))
+abbrev pub ofFile : ℕ → Stream → Bool
+ofFile n s = streamOf (file n) (bare s)
 
-swap2 : (a b : Bool) → (a && b) ≡ (b && a)
-swap2 true true = refl
-swap2 true false = refl
-swap2 false true = refl
-swap2 false false = refl
+abbrev pub unnamedIn : ℕ → Stream → Bool
+unnamedIn n s = unnamedOf (file n) (bare s)
 
-swap3 : (a b c : Bool) → ((a && b) && c) ≡ (b && (a && c))
-swap3 true true c = refl
-swap3 true false c = refl
-swap3 false true c = refl
-swap3 false false c = refl
-
-module _ (ss : List Stream) (n : ℕ) where
-  count-of-file : count (keyed fileOf streamUsed ss n) ss ≡ count (streamOf (file n)) (keep bareUsed (map bare ss))
+-- a stream that isn't used, or is another file's, is none of them
+module _ (n : ℕ) (s : Stream) (e : keyed fileOf streamUsed n s ≡ false) where
+  pub not-of-file : ofFile n s ≡ false
   unfolding streamOf bareUsed streamUsed bare
-  count-of-file =
-      sym
-      (streams-kept (file n) (map bare ss)
-      ∙ count-map bare (streamOf (file n)) ss
-      ∙ count-same (λ s. streamOf (file n) (bare s)) (keyed fileOf streamUsed ss n)
-      (λ s. swap2 (streamUsed s) (eqb (s .file .0) n)) ss)
+  not-of-file = e
 
-  count-unnamed : count (keyed fileOf emptyUsed ss n) ss ≡ count (unnamedOf (file n)) (keep bareUsed (map bare ss))
+  pub not-unnamed-in : unnamedIn n s ≡ false
+  unfolding unnamedOf
+  not-unnamed-in = rw not-of-file
+
+-- a used one is one of its own file's
+module _ (s : Stream) (u : streamUsed s ≡ true) where
+  pub one-of-file : 1 ≡ one (ofFile (fileOf s) s)
+  unfolding streamOf bareUsed streamUsed bare
+  one-of-file = ap one (sym (keyed-own fileOf streamUsed s u))
+
+  pub one-unnamed : {more : ℕ} → more ≡ cond (isEmpty (units (s .name))) 1 0 → more ≡ one (unnamedIn (fileOf s) s)
   unfolding unnamedOf streamOf bareUsed streamUsed bare
-  count-unnamed =
-      sym
-      (unnamed-kept (file n) (map bare ss)
-      ∙ count-map bare (unnamedOf (file n)) ss
-      ∙ count-same (λ s. unnamedOf (file n) (bare s)) (keyed fileOf emptyUsed ss n)
-      (λ s. swap3 (streamUsed s) (eqb (s .file .0) n) (isEmpty (units (s .name)))) ss)
+  one-unnamed e = e ∙ ap (λ (b : Bool). one (b && isEmpty (units (s .name)))) (sym (keyed-own fileOf streamUsed s u))
 
-at-most-one : (b : Bool) → ones b ≤ 1
+pub at-most-one : (b : Bool) → one b ≤ 1
 at-most-one true = omega arith
 at-most-one false = omega arith
 
--- with the streams from place i on, `every` and `unnamed` have the streams of each of `size` files
-pub record Counted (ss : List Stream) (size : ℕ) (every unnamed : List ℕ) (i : ℕ) : Type 0 where
-  pub everySize : length every ≡ size
-  pub unnamedSize : length unnamed ≡ size
-  pub everyKeyedCounts : KeyedCounts fileOf streamUsed ss size every i
-  pub unnamedKeyedCounts : KeyedCounts fileOf emptyUsed ss size unnamed i
+-- a table has for each file how many of the streams before place i pass the test with its number
+pub record Counted (test : ℕ → Stream → Bool) (ss : List Stream) (table : List ℕ) (i : ℕ) : Type 0 where
+  pub size : length table ≡ fileSlots
+  pub counts : Noted 0 fileSlots table (λ n. count (test n) (take i ss))
 
-module _ (ss : List Stream) (size : ℕ) where
-  pub none-counted : Counted ss size (replicate size 0) (replicate size 0) 0
-  none-counted =
-      record {
-        everySize = length-replicate size 0;
-        unnamedSize = length-replicate size 0;
-        everyKeyedCounts = keyed-start fileOf streamUsed ss size;
-        unnamedKeyedCounts = keyed-start fileOf emptyUsed ss size;
-      }
+pub none-counted : (test : ℕ → Stream → Bool) (ss : List Stream) → Counted test ss (replicate fileSlots 0) 0
+unfolding count
+none-counted test ss = record { size = length-replicate {A = ℕ} fileSlots 0; counts = λ n b. getD-replicate {A = ℕ} fileSlots n 0 0 b }
 
-  module _ (every unnamed : List ℕ) (i : ℕ) (counted : Counted ss size every unnamed i) where
-    -- a used stream is one more of its file
-    pub stream-adds : (d : Stream) → i < length ss → streamUsed (getD ss i d) ≡ true → fileOf (getD ss i d) < size
-        → {one : ℕ} → one ≡ cond (isEmpty (units (getD ss i d .name))) 1 0
-        → Counted ss size (set every (fileOf (getD ss i d)) (getD every (fileOf (getD ss i d)) 0 + 1))
-        (set unnamed (fileOf (getD ss i d)) (getD unnamed (fileOf (getD ss i d)) 0 + one)) (i + 1)
-    stream-adds d below u of {one} e =
+module _ (test : ℕ → Stream → Bool) (ss : List Stream) (table : List ℕ) (i : ℕ) (counted : Counted test ss table i) where
+  module _ (other : (n : ℕ) (s : Stream) → keyed fileOf streamUsed n s ≡ false → test n s ≡ false) (d : Stream)
+      (below : i < length ss) where
+    -- the stream at place i is counted at its file
+    pub stream-adds : fileOf (getD ss i d) < fileSlots → (more : ℕ) → more ≡ one (test (fileOf (getD ss i d)) (getD ss i d))
+        → Counted test ss (set table (fileOf (getD ss i d)) (getD table (fileOf (getD ss i d)) 0 + more)) (i + 1)
+    stream-adds of more e =
         record {
-          everySize = length-set every (fileOf (getD ss i d)) _ ∙ counted .everySize;
-          unnamedSize = length-set unnamed (fileOf (getD ss i d)) _ ∙ counted .unnamedSize;
-          everyKeyedCounts =
-              keyed-adds fileOf streamUsed ss size every i d below (counted .everyKeyedCounts) (counted .everySize) of
-              (ap (λ (b : Bool). getD every (fileOf (getD ss i d)) 0 + ones b) (sym u));
-          unnamedKeyedCounts =
-              keyed-adds fileOf emptyUsed ss size unnamed i d below (counted .unnamedKeyedCounts) (counted .unnamedSize) of
-              (ap (λ (k : ℕ). getD unnamed (fileOf (getD ss i d)) 0 + k)
-              (e ∙ ap (λ (b : Bool). ones (b && isEmpty (units (getD ss i d .name)))) (sym u)));
+          size = length-set table (fileOf (getD ss i d)) _ ∙ counted .size;
+          counts = front-add fileOf streamUsed test other ss i d below fileSlots table (counted .counts) (counted .size) of more e;
         }
 
     -- a free one, or one whose file is no slot, is passed over
-    pub stream-skips : (d : Stream) → i < length ss → (streamUsed (getD ss i d) ≡ false) ⊎ (size ≤ fileOf (getD ss i d))
-        → Counted ss size every unnamed (i + 1)
-    stream-skips d below w =
+    pub stream-skips : (streamUsed (getD ss i d) ≡ false) ⊎ (fileSlots ≤ fileOf (getD ss i d)) → Counted test ss table (i + 1)
+    stream-skips w =
         record {
-          everySize = counted .everySize;
-          unnamedSize = counted .unnamedSize;
-          everyKeyedCounts = keyed-skips fileOf streamUsed ss size every i d below (counted .everyKeyedCounts) w;
-          unnamedKeyedCounts = keyed-skips fileOf emptyUsed ss size unnamed i d below (counted .unnamedKeyedCounts) (⊎-elim unused inr w);
+          size = counted .size;
+          counts = front-skip fileOf streamUsed test other ss i d below fileSlots table (counted .counts) w;
         }
-      where
-        unused : streamUsed (getD ss i d) ≡ false
-            → (emptyUsed (getD ss i d) ≡ false) ⊎ (size ≤ fileOf (getD ss i d))
-        unused e = inl (rw e)
 
-    -- a count has room for one more
-    pub every-room : (d : Stream) → fileOf (getD ss i d) < size → getD every (fileOf (getD ss i d)) 0 + 1 ≤ length ss + 1
-    every-room d of =
-        omega (arith, keyed-fits fileOf streamUsed ss size every i (counted .everyKeyedCounts) (fileOf (getD ss i d)) of)
+  -- a count has room for one more
+  pub room : (n : ℕ) → n < fileSlots → getD table n 0 ≤ length ss
+  room n b = omega (arith, counted .counts n b, count-bound (test n) (take i ss), length-take i ss)
 
-    pub unnamed-room : (d : Stream) {one : ℕ} → fileOf (getD ss i d) < size → one ≡ cond (isEmpty (units (getD ss i d .name))) 1 0
-        → getD unnamed (fileOf (getD ss i d)) 0 + one ≤ length ss + 1
-    unnamed-room d {one} of e =
-        omega (
-          arith,
-          keyed-fits fileOf emptyUsed ss size unnamed i (counted .unnamedKeyedCounts) (fileOf (getD ss i d)) of,
-          e,
-          at-most-one (isEmpty (units (getD ss i d .name))),
-        )
+  pub all-counted : length ss ≤ i → (n : ℕ) → n < fileSlots → getD table n 0 ≡ count (test n) ss
+  all-counted past n b = counted .counts n b ∙ ap (count (test n)) (take-all i ss past)
 
-    pub all-counted : length ss ≤ i → (n : ℕ) → n < size
-        → (getD every n 0 ≡ count (streamOf (file n)) (keep bareUsed (map bare ss)))
-        × (getD unnamed n 0 ≡ count (unnamedOf (file n)) (keep bareUsed (map bare ss)))
-    all-counted past n b = (
-      keyed-done fileOf streamUsed ss size every i (counted .everyKeyedCounts) n b past ∙ count-of-file ss n,
-      keyed-done fileOf emptyUsed ss size unnamed i (counted .unnamedKeyedCounts) n b past ∙ count-unnamed ss n,
-    )
+-- among those used, without their counts
+module _ (n : ℕ) (ss : List Stream) where
+  pub count-of-file : count (ofFile n) ss ≡ count (streamOf (file n)) (keep bareUsed (map bare ss))
+  count-of-file = sym (streams-kept (file n) (map bare ss) ∙ count-map bare (streamOf (file n)) ss)
+
+  pub count-unnamed : count (unnamedIn n) ss ≡ count (unnamedOf (file n)) (keep bareUsed (map bare ss))
+  count-unnamed = sym (unnamed-kept (file n) (map bare ss) ∙ count-map bare (unnamedOf (file n)) ss)
 
 -- a file, by the counts found
 abbrev pub foundTest : List ℕ → List ℕ → ℕ → File → Bool

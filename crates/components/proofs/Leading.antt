@@ -9,7 +9,7 @@ use lib.Dec.{eqb}
 use lib.ListN.{length, getD, take, drop, drop-of-length-le, replicate, length-drop, length-take}
 use lib.Seq.{slice, take-nil, take-take, drop-drop}
 use borrow.Author.Tests.{eqb-true}
-use Rattle.lists.proofs.Scan.{drop-next}
+use Rattle.lists.proofs.Places.{drop-next}
 use Rattle.components.specs.Positions.{leading, isSign}
 
 -- from a place on, as a loop finds it

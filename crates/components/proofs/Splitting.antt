@@ -9,7 +9,7 @@ use lib.ListN.{length, take, drop, replicate, length-take, take-append-drop}
 use lib.Seq.{take-length, drop-length, drop-cons}
 use borrow.Author.Tests.{eq-eqb}
 use Rattle.lists.specs.Lists.{keep, isEmpty}
-use Rattle.lists.proofs.Scan.{keep-append}
+use Rattle.lists.proofs.Keep.{keep-append}
 use Rattle.units.specs.Units.{backslash}
 use Rattle.components.specs.Components.{split, startPart, components}
 use Rattle.components.specs.Positions.{leading, isSign, noSign}

@@ -15,7 +15,7 @@ use Rattle.consistency.specs.Relations.{live}
 use Rattle.consistency.specs.Test.{sameCounts, countsTest}
 use Rattle.consistency.specs.Consistent.{CountsTrue}
 use Rattle.lists.proofs.Tests.{and-iff, eqb-iff}
-use Rattle.consistency.proofs.Numbered.{numbered-at, numbered-of}
+use Rattle.lists.proofs.All.{numbered-at, numbered-of}
 
 -- two records of counts pass the test exactly when they are equal
 pub same-counts : (c d : ShareCounts) → sameCounts c d ≡ true → c ≡ d

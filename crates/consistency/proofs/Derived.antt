@@ -7,11 +7,11 @@ use mathlib.Core.List.{List, map}
 use native.Mathlib.Decide.{decLt}
 use native.Mathlib.Omega.{arith}
 use lib.ListN.{length, List·getD-map, List·getD-eq-default}
-use Rattle.lists.specs.Lists.{any, count}
-use Rattle.lists.proofs.Tests.{not-both}
-use Rattle.lists.proofs.PairsPerm.{kept-each, none-of, keep-none}
+use Rattle.lists.specs.Lists.{any}
+use Rattle.lists.proofs.Tests.{not-both, fails-iff}
+use Rattle.lists.proofs.Keep.{none-kept-of}
 use Rattle.records.specs.Sizes.{streamSlots}
-use Rattle.records.specs.Slots.{zeroStream, zeroCounts, zeroOpen, isUsed, fileUsed, streamUsed, openUsed}
+use Rattle.records.specs.Slots.{zeroStream, zeroOpen, isUsed, fileUsed, streamUsed, openUsed}
 use Rattle.tables.specs.Tables.{fileAt, streamAt}
 use Rattle.records.specs.Namespace.{BareStream, zeroBare, bare, bareUsed, bareAt, namespace}
 use Rattle.records.specs.declared.FileNo.{FileNo}
@@ -21,12 +21,13 @@ use Rattle.records.specs.declared.Stream.{Stream}
 use Rattle.records.specs.declared.Open.{Open}
 use Rattle.records.specs.declared.OpenTable.{OpenTable}
 use Rattle.records.specs.declared.Volume.{Volume}
-use Rattle.sharing.specs.Sharing.{onStream, countsOfAll, countsOf}
+use Rattle.sharing.specs.Sharing.{onStream}
+use Rattle.sharing.proofs.Counts.{counts-none}
 use Rattle.consistency.specs.Relations.{live}
 use Rattle.consistency.specs.Good.{GoodFile}
 use Rattle.consistency.specs.Consistent.{FilesConsistent, GoodStreamOf, StreamsConsistent, openAt, OpensConsistent, Consistent}
 use Rattle.consistency.proofs.Slots.{slots-below}
-use Rattle.consistency.proofs.Numbered.{stream-iff, fails-iff}
+use Rattle.consistency.proofs.Numbered.{stream-iff}
 
 -- used slots by their numbers
 pub file-good : {fs : List File} → FilesConsistent fs → (f : FileNo) → fileUsed (fileAt fs f) ≡ true → GoodFile (fileAt fs f)
@@ -48,20 +49,15 @@ pub bare-at : (ss : List Stream) (s : StreamNo) → bareAt (map bare ss) s ≡ b
 unfolding bareAt streamAt bare
 bare-at ss s = List·getD-map bare ss (s .0) zeroStream
 
--- a free stream has no open, since a live open names a used stream; and its counts are zero
+-- a free stream has no open, since a live open names a used stream
 pub free-unopened : {ss : List BareStream} {next : ℕ} {os : List Open} → OpensConsistent ss next os → (s : StreamNo)
     → bareUsed (bareAt ss s) ≡ false → any (onStream s) (live os) ≡ false
 unfolding live onStream
 free-unopened {ss} {next} {os} c s f =
-    none-of (onStream s) zeroOpen (live os)
-    (kept-each openUsed zeroOpen (λ o. onStream s o ≡ false) os
+    none-kept-of openUsed (onStream s) zeroOpen os
     (λ i u.
     fails-iff (stream-iff (openAt os i .stream) s) .1
-    (λ e. not-both (c .slots .usedGood i u .namesUsedStream) (ap (λ (n : StreamNo). bareUsed (bareAt ss n)) e ∙ f))))
-
-pub counts-none : (s : StreamNo) (os : List Open) → any (onStream s) os ≡ false → countsOf s os ≡ zeroCounts
-unfolding countsOf countsOfAll count
-counts-none s os h = ap countsOfAll (keep-none (onStream s) os h)
+    (λ e. not-both (c .slots .usedGood i u .namesUsedStream) (ap (λ (n : StreamNo). bareUsed (bareAt ss n)) e ∙ f)))
 
 -- a free stream's record is all zero
 pub free-stream-zero : {v : Volume} {t : OpenTable} → Consistent v t

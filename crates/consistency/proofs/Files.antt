@@ -4,14 +4,15 @@ use mathlib.Core.Bool.{true}
 use mathlib.Core.List.{List}
 use mathlib.Core.Logic.{_↔_}
 use Rattle.lists.specs.Lists.{same}
-use Rattle.lists.proofs.Tests.{and-iff, eqb-iff, same-iff}
+use Rattle.lists.proofs.Tests.{and-iff, eqb-iff, beq-iff}
+use Rattle.lists.proofs.Same.{same-iff}
 use Rattle.records.specs.Slots.{zeroFile, isUsed, fileUsed}
 use Rattle.records.specs.declared.File.{File}
 use Rattle.consistency.specs.Good.{GoodFile, goodFile, isZeroFile}
 use Rattle.consistency.specs.Consistent.{FilesConsistent}
 use Rattle.consistency.specs.Test.{filesTest}
 use Rattle.consistency.proofs.Slots.{Decides, slots-iff}
-use Rattle.consistency.proofs.Numbered.{unused, beq-iff}
+use Rattle.consistency.proofs.Numbered.{unused}
 
 pub file-decides : Decides fileUsed goodFile isZeroFile zeroFile GoodFile
 unfolding fileUsed isUsed goodFile isZeroFile same

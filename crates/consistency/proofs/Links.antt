@@ -4,11 +4,13 @@ use Prim.Native.Nat.{ℕ, _<_}
 use mathlib.Core.Path.{_≡_, refl, sym, _∙_, ap}
 use mathlib.Core.Bool.{true, cond}
 use mathlib.Core.List.{List}
-use mathlib.Core.Logic.{_↔_, _≢_, ⊎-elim}
+use mathlib.Core.Logic.{_↔_, _≢_}
 use lib.Dec.{eqb}
 use lib.ListN.{length}
 use Rattle.lists.specs.Lists.{allFrom, count, keep, pairs, same}
-use Rattle.lists.proofs.Tests.{tested, and-iff, eqb-iff, same-iff, cond-true, cond-false}
+use Rattle.lists.proofs.Tests.{by-cases, and-iff, eqb-iff, cond-true, cond-false, fails-iff, guard-iff}
+use Rattle.lists.proofs.Places.{used-below}
+use Rattle.lists.proofs.Same.{same-iff}
 use Rattle.records.specs.Sizes.{fileSlots}
 use Rattle.records.specs.Slots.{root, zeroLink, fileUsed, linkUsed}
 use Rattle.tables.specs.Tables.{fileAt, linkAt}
@@ -22,8 +24,8 @@ use Rattle.consistency.specs.Slots.{EveryTwo}
 use Rattle.consistency.specs.Good.{goodLink, isZeroLink, linkNamesDiffer, LinkNamesDiffer}
 use Rattle.consistency.specs.Consistent.{FilesConsistent, GoodLinkOf, LinksConsistent}
 use Rattle.consistency.specs.Test.{goodLinkOf, linksOfFile, linksTest}
-use Rattle.consistency.proofs.Slots.{Decides, used-below, slots-iff, two-iff}
-use Rattle.consistency.proofs.Numbered.{same-file, file-iff, fails-iff, guard-iff, names-iff, directory-file, files-each}
+use Rattle.consistency.proofs.Slots.{Decides, slots-iff, two-iff}
+use Rattle.consistency.proofs.Numbered.{same-file, file-iff, names-iff, directory-file, files-each}
 use Rattle.consistency.proofs.Parents.{links-kept, reaches-kept, reaches-climbs, few-steps}
 
 pub link-decides : (fs : List File) → Decides linkUsed (goodLinkOf fs) isZeroLink zeroLink (GoodLinkOf fs)
@@ -68,9 +70,8 @@ wanted-iff : (ls : List Link) (f : FileNo)
 wanted-iff ls f = (
   λ e. (λ r. e ∙ cond-true 0 1 (file-iff f root .1 r), λ r. e ∙ cond-false 0 1 (fails-iff (file-iff f root) .1 r)),
   λ w.
-      ⊎-elim (λ e. w .0 (file-iff f root .0 e) ∙ sym (cond-true 0 1 e))
-      (λ e. w .1 (fails-iff (file-iff f root) .0 e) ∙ sym (cond-false 0 1 e))
-      (tested (eqb (f .0) 0)),
+      by-cases (eqb (f .0) 0) (λ e. w .0 (file-iff f root .0 e) ∙ sym (cond-true 0 1 e))
+      (λ e. w .1 (fails-iff (file-iff f root) .0 e) ∙ sym (cond-false 0 1 e)),
 )
 
 -- a file's test, over all the links

@@ -1,18 +1,17 @@
--- Numbers that are types of their own, the types of files, tests that exclude each other, and tests of every slot with
--- its number.
+-- Numbers that are types of their own, the types of files, and tests of every file with its number.
 use Prim.Native.Nat.{ℕ, _<_}
-use mathlib.Core.Path.{_≡_, refl, sym, _∙_, ap}
-use mathlib.Core.Bool.{Bool, true, false, not, Bool·beq, _&&_, _||_, false≢true, true≢false}
+use mathlib.Core.Path.{_≡_, refl}
+use mathlib.Core.Bool.{Bool, true, false, not, _&&_, false≢true, true≢false}
 use mathlib.Core.List.{List}
 use mathlib.Core.Logic.{_↔_, _≢_}
-use native.Mathlib.Nat.{zero-add}
 use lib.Dec.{eqb}
-use lib.ListN.{length, getD}
-use borrow.Author.Tests.{eqb-true, eq-eqb, not-true}
+use lib.ListN.{length}
+use borrow.Author.Tests.{eqb-true, eq-eqb}
 use Rattle.lists.specs.Lists.{allFrom, same}
-use Rattle.lists.proofs.All.{all-from-at, all-from-of}
-use Rattle.lists.proofs.Slots.{refuted}
-use Rattle.lists.proofs.Tests.{not-both, same-iff, guarded, guard}
+use Rattle.lists.proofs.Tests.{fails-iff, exclude-iff}
+use Rattle.lists.proofs.Places.{used-below}
+use Rattle.lists.proofs.Same.{same-iff}
+use Rattle.lists.proofs.All.{numbered-at, numbered-of}
 use Rattle.records.specs.Slots.{isUsed, isDirectory, zeroFile, fileUsed}
 use Rattle.tables.specs.Tables.{fileAt}
 use Rattle.records.specs.declared.FileType.{FileType}
@@ -22,7 +21,6 @@ use Rattle.records.specs.declared.StreamNo.{StreamNo}
 use Rattle.records.specs.declared.Handle.{Handle}
 use Rattle.records.specs.declared.File.{File}
 use Rattle.consistency.specs.Relations.{typeAt}
-use Rattle.consistency.proofs.Slots.{used-below}
 
 -- numbers of a type of their own are equal where the numbers are, which a test decides
 pub same-file : (f g : FileNo) → f .0 ≡ g .0 → f ≡ g
@@ -67,43 +65,9 @@ same-type Directory Unused h k e = absurd (false≢true k)
 same-type Directory Data h k e = absurd (true≢false e)
 same-type Directory Directory h k e = refl
 
--- two tests that agree
-pub beq-iff : (a b : Bool) → (Bool·beq a b ≡ true) ↔ (a ≡ b)
-beq-iff true true = (λ h. refl, λ e. refl)
-beq-iff true false = (sym, sym)
-beq-iff false true = (λ h. h, λ e. e)
-beq-iff false false = (λ h. refl, λ e. refl)
-
--- a test that counts only where another passes
-pub guard-iff : (a b : Bool) → ((not a || b) ≡ true) ↔ (a ≡ true → b ≡ true)
-guard-iff a b = (guarded a b, guard a b)
-
--- a test that decides something fails where that does not hold
-pub fails-iff : {b : Bool} {P : Type 0} → (b ≡ true) ↔ P → (b ≡ false) ↔ (P → ⊥)
-fails-iff {b} d = (λ h p. not-both (d .1 p) h, λ n. refuted b (λ h. n (d .0 h)))
-
--- two tests that exclude each other
-pub exclude-iff : {a b : Bool} {P Q : Type 0} → (a ≡ true) ↔ P → (b ≡ false) ↔ Q → (not (a && b) ≡ true) ↔ (P → Q)
-exclude-iff {a} {b} d e = (λ h p. e .0 (excluded a h (d .1 p)), λ n. excludes a (λ h. e .1 (n (d .0 h))))
-  where
-    excluded : (c : Bool) → not (c && b) ≡ true → c ≡ true → b ≡ false
-    excluded true h p = not-true b h
-    excluded false h p = absurd (not-both p refl)
-
-    excludes : (c : Bool) → (c ≡ true → b ≡ false) → not (c && b) ≡ true
-    excludes true h = ap not (h refl)
-    excludes false h = refl
-
 -- two names in one directory, or of one file, differ
 pub names-iff : (f g : FileNo) (xs ys : List ℕ) → (not (eqb (f .0) (g .0) && same xs ys) ≡ true) ↔ (f ≡ g → xs ≢ ys)
 names-iff f g xs ys = exclude-iff (file-iff f g) (fails-iff (same-iff xs ys))
-
-module _ {A : Type 0} (p : ℕ → A → Bool) (d : A) (xs : List A) where
-  pub numbered-at : allFrom p 0 xs ≡ true → (i : ℕ) → i < length xs → p i (getD xs i d) ≡ true
-  numbered-at h i b = ap (λ (n : ℕ). p n (getD xs i d)) (sym (zero-add i)) ∙ all-from-at p d 0 xs h i b
-
-  pub numbered-of : ((i : ℕ) → i < length xs → p i (getD xs i d) ≡ true) → allFrom p 0 xs ≡ true
-  numbered-of h = all-from-of p d 0 xs (λ i b. ap (λ (n : ℕ). p n (getD xs i d)) (zero-add i) ∙ h i b)
 
 -- past the end of the files no slot is used
 pub file-in : (fs : List File) (f : FileNo) → fileUsed (fileAt fs f) ≡ true → f .0 < length fs

@@ -7,7 +7,7 @@ use mathlib.Core.Logic.{_↔_}
 use lib.Dec.{eqb}
 use borrow.Author.Tests.{eqb-true, eqb-false, ne-eqb, not-true, not-false}
 use Rattle.lists.specs.Lists.{keep, pairs}
-use Rattle.lists.proofs.Tests.{and-iff, not-iff, not-is, eqb-iff, leb-iff}
+use Rattle.lists.proofs.Tests.{and-iff, not-iff, not-is, eqb-iff, leb-iff, fails-iff, exclude-iff}
 use Rattle.records.specs.Slots.{root, zeroOpen, openUsed}
 use Rattle.records.specs.Namespace.{BareStream, bareAt}
 use Rattle.records.specs.declared.Open.{Open}
@@ -17,7 +17,7 @@ use Rattle.consistency.specs.Good.{goodOpen, isZeroOpen, handlesDiffer, 
 use Rattle.consistency.specs.Consistent.{openAt, GoodOpenOf, OpensConsistent, NoConflicts}
 use Rattle.consistency.specs.Test.{goodOpenOf, opensTest, conflictsTest}
 use Rattle.consistency.proofs.Slots.{Decides, slots-iff, two-iff}
-use Rattle.consistency.proofs.Numbered.{same-file, same-stream, same-handle, file-iff, stream-iff, handle-iff, fails-iff, exclude-iff}
+use Rattle.consistency.proofs.Numbered.{same-file, same-stream, same-handle, file-iff, stream-iff, handle-iff}
 
 pub open-decides : (ss : List BareStream) (next : ℕ) → Decides openUsed (goodOpenOf ss next) isZeroOpen zeroOpen (GoodOpenOf ss next)
 unfolding openUsed goodOpen isZeroOpen

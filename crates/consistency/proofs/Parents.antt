@@ -11,8 +11,9 @@ use lib.Dec.{eqb}
 use lib.ListN.{length, getD}
 use borrow.Author.Tests.{eqb-true, eqb-false, eq-eqb}
 use Rattle.lists.specs.Lists.{count, keep}
-use Rattle.lists.proofs.Tests.{not-both, or-cases, or-left, or-right}
-use Rattle.lists.proofs.Keep.{keep-yes, keep-no, count-keep, count-yes, count-no}
+use Rattle.lists.proofs.Tests.{by-cases, refuted, not-both, or-cases, or-left, or-right}
+use Rattle.lists.proofs.Count.{count-yes, count-no}
+use Rattle.lists.proofs.Keep.{keep-yes, keep-no, count-keep}
 use Rattle.lists.proofs.Pigeonhole.{pigeonhole, least}
 use Rattle.records.specs.Slots.{root, zeroLink, fileUsed, linkUsed}
 use Rattle.tables.specs.Tables.{fileAt}
@@ -28,11 +29,11 @@ links-kept f ls = count-keep linkUsed (linkTo f) (λ l h. link-to-iff f l .0 h .
 
 -- the parent by the first link, or by a later one
 module _ (f : FileNo) (l : Link) (ls : List Link) where
-  parent-here : linkTo f l ≡ true → parentOf (l ∷ ls) f ≡ l .parent
+  pub parent-here : linkTo f l ≡ true → parentOf (l ∷ ls) f ≡ l .parent
   unfolding parentOf
   parent-here e = rw (e, parentOf)
 
-  parent-next : linkTo f l ≡ false → parentOf (l ∷ ls) f ≡ parentOf ls f
+  pub parent-next : linkTo f l ≡ false → parentOf (l ∷ ls) f ≡ parentOf ls f
   unfolding parentOf
   parent-next e = rw (e, parentOf)
 
@@ -40,42 +41,35 @@ module _ (f : FileNo) (l : Link) (ls : List Link) where
 pub parent-kept : (ls : List Link) (f : FileNo) → parentOf (keep linkUsed ls) f ≡ parentOf ls f
 unfolding keep
 parent-kept [] f = refl
-parent-kept (l ∷ ls) f = go (linkUsed l) (linkTo f l) refl refl (parent-kept ls f)
-  where
-    go : (b c : Bool) → linkUsed l ≡ b → linkTo f l ≡ c → parentOf (keep linkUsed ls) f ≡ parentOf ls f
-        → parentOf (keep linkUsed (l ∷ ls)) f ≡ parentOf (l ∷ ls) f
-    go true true u e h = rw (keep-yes linkUsed l ls u) (parent-here f l (keep linkUsed ls) e ∙ sym (parent-here f l ls e))
-    go true false u e h =
-        rw (keep-yes linkUsed l ls u) (parent-next f l (keep linkUsed ls) e ∙ h ∙ sym (parent-next f l ls e))
-    go false true u e h = absurd (not-both (link-to-iff f l .0 e .0) u)
-    go false false u e h = rw (keep-no linkUsed l ls u) (h ∙ sym (parent-next f l ls e))
+parent-kept (l ∷ ls) f =
+    let h = parent-kept ls f in
+    by-cases (linkUsed l)
+    (λ u.
+    rw (keep-yes linkUsed l ls u)
+    (by-cases (linkTo f l) (λ e. parent-here f l (keep linkUsed ls) e ∙ sym (parent-here f l ls e))
+    (λ e. parent-next f l (keep linkUsed ls) e ∙ h ∙ sym (parent-next f l ls e))))
+    (λ u.
+    rw (keep-no linkUsed l ls u)
+    (h ∙ sym (parent-next f l ls (refuted (linkTo f l) (λ e. not-both (link-to-iff f l .0 e .0) u)))))
 
 -- a file with a link has the parent of one of its links
 pub parent-link : (ls : List Link) (f : FileNo) → 0 < count (linkTo f) ls
     → (i : ℕ) × (linkTo f (getD ls i zeroLink) ≡ true) × (parentOf ls f ≡ getD ls i zeroLink .parent)
 unfolding count
 parent-link [] f h = absurd (let z : ⊥ = omega arith in z)
-parent-link (l ∷ ls) f h = go (linkTo f l) refl (parent-link ls f)
-  where
-    go : (b : Bool) → linkTo f l ≡ b
-        → (0 < count (linkTo f) ls
-        → (i : ℕ) × (linkTo f (getD ls i zeroLink) ≡ true) × (parentOf ls f ≡ getD ls i zeroLink .parent))
-        → (i : ℕ) × (linkTo f (getD (l ∷ ls) i zeroLink) ≡ true)
-        × (parentOf (l ∷ ls) f ≡ getD (l ∷ ls) i zeroLink .parent)
-    go true e k = (0, e, parent-here f l ls e)
-    go false e k =
-        let q = k (omega (arith, count-no (linkTo f) l ls e)) in
-        (suc (q .0), q .1, parent-next f l ls e ∙ q .2)
+parent-link (l ∷ ls) f h =
+    by-cases (linkTo f l) (λ e. (0, e, parent-here f l ls e))
+    (λ e.
+    let q = parent-link ls f (omega (arith, count-no (linkTo f) l ls e)) in
+    (suc (q .0), q .1, parent-next f l ls e ∙ q .2))
 
 -- a file without a link is its own parent
 pub parent-none : (ls : List Link) (f : FileNo) → count (linkTo f) ls ≡ 0 → parentOf ls f ≡ f
 unfolding count parentOf
 parent-none [] f h = refl
-parent-none (l ∷ ls) f h = go (linkTo f l) refl (parent-none ls f)
-  where
-    go : (b : Bool) → linkTo f l ≡ b → (count (linkTo f) ls ≡ 0 → parentOf ls f ≡ f) → parentOf (l ∷ ls) f ≡ f
-    go true e k = absurd (let z : ⊥ = omega (arith, count-yes (linkTo f) l ls e) in z)
-    go false e k = parent-next f l ls e ∙ k (sym (count-no (linkTo f) l ls e) ∙ h)
+parent-none (l ∷ ls) f h =
+    by-cases (linkTo f l) (λ e. absurd (let z : ⊥ = omega (arith, count-yes (linkTo f) l ls e) in z))
+    (λ e. parent-next f l ls e ∙ parent-none ls f (sym (count-no (linkTo f) l ls e) ∙ h))
 
 -- a steps up and then b more
 pub climb-more : (ls : List Link) (a b : ℕ) (f : FileNo) → climb ls (a + b) f ≡ climb ls b (climb ls a f)
@@ -87,11 +81,7 @@ climb-more ls (suc a) b f = ap (λ (n : ℕ). climb ls n f) (suc-add a b) ∙ cl
 reaches-step : (ls : List Link) (n : ℕ) (f : FileNo)
     → reaches ls (suc n) f ≡ (eqb (f .0) 0 || reaches ls n (parentOf ls f))
 unfolding reaches
-reaches-step ls n f = go (eqb (f .0) 0) refl
-  where
-    go : (b : Bool) → eqb (f .0) 0 ≡ b → reaches ls (suc n) f ≡ (eqb (f .0) 0 || reaches ls n (parentOf ls f))
-    go true e = rw (e, reaches)
-    go false e = rw (e, reaches)
+reaches-step ls n f = by-cases (eqb (f .0) 0) (λ e. rw (e, reaches)) (λ e. rw (e, reaches))
 
 pub reaches-kept : (ls : List Link) (n : ℕ) (f : FileNo) → reaches (keep linkUsed ls) n f ≡ reaches ls n f
 unfolding reaches

@@ -5,7 +5,8 @@ use mathlib.Core.Bool.{true}
 use mathlib.Core.List.{List, []}
 use mathlib.Core.Logic.{_↔_}
 use Rattle.lists.specs.Lists.{isEmpty}
-use Rattle.lists.proofs.Tests.{and-iff, empty-is}
+use Rattle.lists.proofs.Tests.{and-iff}
+use Rattle.lists.proofs.Same.{empty-is}
 use Rattle.records.specs.Slots.{linkUsed}
 use Rattle.records.specs.Namespace.{BareStream, bareUsed}
 use Rattle.records.specs.declared.FileNo.{FileNo}

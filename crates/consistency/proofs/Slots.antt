@@ -1,18 +1,18 @@
 -- The laws of a table's slots: a test decides them; when one is set, and when other things are asked of a used one, they
 -- stay as they should be.
-use Prim.Native.Nat.{ℕ, _≤_, _<_}
+use Prim.Native.Nat.{ℕ, _<_}
 use mathlib.Core.Path.{_≡_, refl, sym, _∙_, ap}
 use mathlib.Core.Bool.{Bool, true, false, cond}
 use mathlib.Core.List.{List}
-use mathlib.Core.Logic.{_↔_, _⊎_, inl, inr, ⊎-elim}
-use native.Mathlib.Decide.{decLt}
+use mathlib.Core.Logic.{_↔_, _⊎_, inl, inr}
 use native.Mathlib.Omega.{arith}
-use lib.ListN.{length, getD, set, length-set, List·getD-eq-default}
+use lib.ListN.{getD, set, length-set}
 use Rattle.lists.specs.Lists.{all, keep, pairs}
+use Rattle.lists.proofs.Tests.{by-cases, cond-true, cond-false, not-both, and-iff, eqb-iff}
+use Rattle.lists.proofs.Places.{used-below}
 use Rattle.lists.proofs.All.{all-of, all-slots}
 use Rattle.lists.proofs.Pairs.{pairs-keep-at, pairs-keep-of}
-use Rattle.lists.proofs.PairsPerm.{set-each, set-pairs}
-use Rattle.lists.proofs.Tests.{tested, cond-true, cond-false, not-both, and-iff, eqb-iff}
+use Rattle.lists.proofs.Set.{set-each, set-pairs}
 use Rattle.consistency.specs.Slots.{Slots, EveryTwo, slotTest, slotsTest}
 
 -- what tests decide of a table's records: that a used one is good, and that a free one is all zero
@@ -20,18 +20,6 @@ pub record Decides {A : Type 0} (used good isZero : A → Bool) (zero : A) (Good
   pub zeroFree : used zero ≡ false
   pub decidesGood : (x : A) → used x ≡ true → (good x ≡ true) ↔ Good x
   pub decidesZero : (x : A) → used x ≡ false → (isZero x ≡ true) ↔ (x ≡ zero)
-
--- a used slot is below the length
-pub used-below : {A : Type 0} (used : A → Bool) (zero : A) → used zero ≡ false
-    → (xs : List A) (i : ℕ) → used (getD xs i zero) ≡ true → i < length xs
-used-below used zero free xs i u =
-    elim (decLt i (length xs)) [
-      | yes b ↦ b
-      | no n ↦ absurd (not-both u (ap used (List·getD-eq-default xs zero {n = i} (past n)) ∙ free))
-    ]
-  where
-    past : (i < length xs → ⊥) → length xs ≤ i
-    past n = omega arith
 
 module _ {A : Type 0} {used good isZero : A → Bool} {zero : A} {Good : A → Type 0} (d : Decides used good isZero zero Good) where
   -- a slot that passes: a good one, or all zero
@@ -42,13 +30,12 @@ module _ {A : Type 0} {used good isZero : A → Bool} {zero : A} {Good : A → T
   slot-zero x u h = d .decidesZero x u .0 (sym (cond-false (good x) (isZero x) u) ∙ h)
 
   pub slot-passes : (x : A) → slotTest used good isZero x ≡ true → Good x ⊎ (x ≡ zero)
-  slot-passes x h = ⊎-elim (λ u. inl (slot-good x u h)) (λ u. inr (slot-zero x u h)) (tested (used x))
+  slot-passes x h = by-cases (used x) (λ u. inl (slot-good x u h)) (λ u. inr (slot-zero x u h))
 
   slot-of : (x : A) → (used x ≡ true → Good x) → (used x ≡ false → x ≡ zero) → slotTest used good isZero x ≡ true
   slot-of x g z =
-      ⊎-elim (λ u. cond-true (good x) (isZero x) u ∙ d .decidesGood x u .1 (g u))
+      by-cases (used x) (λ u. cond-true (good x) (isZero x) u ∙ d .decidesGood x u .1 (g u))
       (λ u. cond-false (good x) (isZero x) u ∙ d .decidesZero x u .1 (z u))
-      (tested (used x))
 
   pub slots-iff : (n : ℕ) (xs : List A) → (slotsTest used good isZero n xs ≡ true) ↔ Slots used zero Good n xs
   unfolding slotsTest

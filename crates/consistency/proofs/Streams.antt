@@ -6,7 +6,9 @@ use mathlib.Core.List.{List}
 use mathlib.Core.Logic.{_↔_}
 use lib.ListN.{length}
 use Rattle.lists.specs.Lists.{allFrom, count, keep, pairs, same}
-use Rattle.lists.proofs.Tests.{and-iff, eqb-iff, same-iff}
+use Rattle.lists.proofs.Tests.{and-iff, eqb-iff, beq-iff, guard-iff}
+use Rattle.lists.proofs.Places.{used-below}
+use Rattle.lists.proofs.Same.{same-iff}
 use Rattle.lists.proofs.Keep.{count-keep}
 use Rattle.records.specs.Slots.{root, isUsed, isDirectory, fileUsed}
 use Rattle.tables.specs.Tables.{fileAt}
@@ -20,9 +22,9 @@ use Rattle.consistency.specs.Slots.{EveryTwo}
 use Rattle.consistency.specs.Good.{goodStream, isZeroStream, streamNamesDiffer, StreamNamesDiffer}
 use Rattle.consistency.specs.Consistent.{GoodStreamOf, StreamsConsistent}
 use Rattle.consistency.specs.Test.{goodStreamOf, streamsOfFile, streamsTest}
-use Rattle.consistency.proofs.Slots.{Decides, used-below, slots-iff, two-iff}
+use Rattle.consistency.proofs.Slots.{Decides, slots-iff, two-iff}
 use Rattle.consistency.proofs.Relations.{stream-of-iff, unnamed-iff}
-use Rattle.consistency.proofs.Numbered.{same-file, unused, same-type, beq-iff, guard-iff, names-iff, directory-file, files-each}
+use Rattle.consistency.proofs.Numbered.{same-file, unused, same-type, names-iff, directory-file, files-each}
 
 pub stream-decides : (fs : List File) → Decides bareUsed (goodStreamOf fs) isZeroStream zeroBare (GoodStreamOf fs)
 unfolding bareUsed isUsed goodStream isZeroStream same

@@ -9,8 +9,8 @@ use mir.Val.{Val}
 use denote.Laws.{Is}
 use borrow.Author.Tests.{eq-eqb}
 use Rattle.lists.specs.Lists.{all}
-use Rattle.lists.proofs.All.{all-of}
 use Rattle.lists.proofs.Tests.{and-both}
+use Rattle.lists.proofs.All.{all-of}
 use Rattle.records.specs.Sizes.{fileSlots, linkSlots, streamSlots, openSlots, fileNameLimit, streamNameLimit, accounts}
 use Rattle.records.specs.Slots.{zeroFile, zeroLink, zeroStream}
 use Rattle.records.specs.declared.Volume.{Volume}

@@ -1,17 +1,18 @@
--- A test of every element, as a statement about every place: past the end stands a default, which must pass too.
+-- Every element passes.
 use Prim.Native.Nat.{ℕ, zero, suc, _+_, _≤_, _<_}
-use mathlib.Core.Path.{_≡_, refl, sym, _∙_, ap, ap₂, subst}
-use mathlib.Core.Bool.{Bool, true, false, _&&_, _||_, false≢true, true≢false}
-use mathlib.Core.List.{List, [], _∷_}
-use mathlib.Core.Logic.{⊎-elim}
-use native.Mathlib.Nat.{add-zero, add-suc, suc-add}
+use mathlib.Core.Path.{_≡_, refl, sym, _∙_, ap, ap₂}
+use mathlib.Core.Bool.{Bool, true, false, not, _&&_}
+use mathlib.Core.List.{List, [], _∷_, map}
+use native.Mathlib.Numerals.{add-one}
 use native.Mathlib.Omega.{arith}
-use lib.ListN.{length, getD}
-use Rattle.lists.specs.Lists.{all, allFrom, any}
-use Rattle.lists.proofs.Tests.{tested, and-left, and-right, and-both, or-cases, or-left, or-right, or-neither}
+use lib.ListN.{length, getD, drop, drop-of-length-le}
+use lib.Seq.{drop-cons}
+use Rattle.lists.specs.Lists.{all, allFrom}
+use Rattle.lists.proofs.Tests.{by-cases, not-both, not-is, and-left, and-right, and-both}
+use Rattle.lists.proofs.Places.{used-below, drop-next}
 
+-- at each place
 module _ {A : Type 0} (p : A → Bool) (d : A) where
-  -- each place below the length passes
   pub all-at : (xs : List A) → all p xs ≡ true → (i : ℕ) → i < length xs → p (getD xs i d) ≡ true
   unfolding all
   all-at [] h i b = absurd (let z : ⊥ = omega arith in z)
@@ -23,40 +24,73 @@ module _ {A : Type 0} (p : A → Bool) (d : A) where
   all-of [] h = refl
   all-of (x ∷ xs) h = and-both (h 0 (omega arith)) (all-of xs (λ i b. h (suc i) (omega arith)))
 
-  -- each place passes, where the default passes
+  -- past the end too, where the default passes
   pub all-slots : p d ≡ true → (xs : List A) → all p xs ≡ true → (i : ℕ) → p (getD xs i d) ≡ true
+  all-slots hd xs h i =
+      by-cases (p (getD xs i d)) (λ e. e)
+      (λ e. absurd (not-both (all-at xs h i (used-below (λ x. not (p x)) d (ap not hd) xs i (not-is e))) e))
+
+-- one step, and the end
+module _ {A : Type 0} (p : A → Bool) (xs : List A) (i : ℕ) where
+  pub all-fails : (d : A) → i < length xs → p (getD xs i d) ≡ false → all p (drop i xs) ≡ false
   unfolding all
-  all-slots hd [] h i = hd
-  all-slots hd (x ∷ xs) h zero = and-left (p x) (all p xs) h
-  all-slots hd (x ∷ xs) h (suc i) = all-slots hd xs (and-right (p x) (all p xs) h) i
+  all-fails d h e = rw (drop-next xs i d h, e)
 
-  -- some place passes
-  pub any-at : (xs : List A) → any p xs ≡ true → (i : ℕ) × (i < length xs) × (p (getD xs i d) ≡ true)
-  unfolding any
-  any-at [] h = absurd (false≢true h)
-  any-at (x ∷ xs) h =
-      ⊎-elim (λ e. (0, omega arith, e)) (λ e. let r = any-at xs e in (suc (r .0), omega (arith, r .1), r .2))
-      (or-cases (p x) (any p xs) h)
+  pub all-next : (d : A) → i < length xs → p (getD xs i d) ≡ true → all p (drop i xs) ≡ all p (drop (i + 1) xs)
+  unfolding all
+  all-next d h e = rw (drop-next xs i d h, e)
 
-  pub any-of : (xs : List A) (i : ℕ) → i < length xs → p (getD xs i d) ≡ true → any p xs ≡ true
-  unfolding any
-  any-of [] i b e = absurd (let z : ⊥ = omega arith in z)
-  any-of (x ∷ xs) zero b e = or-left (any p xs) e
-  any-of (x ∷ xs) (suc i) b e = or-right (p x) (any-of xs i (omega arith) e)
+  pub all-end : length xs ≤ i → all p (drop i xs) ≡ true
+  unfolding all
+  all-end h = rw (drop-of-length-le xs h)
 
-module _ {A : Type 0} (p : ℕ → A → Bool) (d : A) where
-  pub all-from-at : (n : ℕ) (xs : List A) → allFrom p n xs ≡ true → (i : ℕ) → i < length xs → p (n + i) (getD xs i d) ≡ true
+-- a list made from another
+pub all-map : {A B : Type 0} (f : A → B) (p : B → Bool) (xs : List A) → all p (map f xs) ≡ all (λ x. p (f x)) xs
+unfolding all
+all-map f p [] = refl
+all-map f p (x ∷ xs) = ap (λ (b : Bool). p (f x) && b) (all-map f p xs)
+
+-- every element passes with its number
+module _ {A : Type 0} where
+  numbered-shift : (p : ℕ → A → Bool) (n : ℕ) (xs : List A) → allFrom p (suc n) xs ≡ allFrom (λ m. p (suc m)) n xs
   unfolding allFrom
-  all-from-at n [] h i b = absurd (let z : ⊥ = omega arith in z)
-  all-from-at n (x ∷ xs) h zero b = ap (λ (m : ℕ). p m x) (add-zero n) ∙ and-left (p n x) (allFrom p (suc n) xs) h
-  all-from-at n (x ∷ xs) h (suc i) b =
-      ap (λ (m : ℕ). p m (getD xs i d)) (add-suc n i ∙ sym (suc-add n i))
-      ∙ all-from-at (suc n) xs (and-right (p n x) (allFrom p (suc n) xs) h) i (omega arith)
+  numbered-shift p n [] = refl
+  numbered-shift p n (x ∷ xs) = ap (λ (b : Bool). p (suc n) x && b) (numbered-shift p (suc n) xs)
 
-  pub all-from-of : (n : ℕ) (xs : List A) → ((i : ℕ) → i < length xs → p (n + i) (getD xs i d) ≡ true) → allFrom p n xs ≡ true
+  pub numbered-at : (p : ℕ → A → Bool) (d : A) (xs : List A) → allFrom p 0 xs ≡ true → (i : ℕ) → i < length xs
+      → p i (getD xs i d) ≡ true
   unfolding allFrom
-  all-from-of n [] h = refl
-  all-from-of n (x ∷ xs) h =
-      and-both (ap (λ (m : ℕ). p m x) (sym (add-zero n)) ∙ h 0 (omega arith))
-      (all-from-of (suc n) xs
-      (λ i b. ap (λ (m : ℕ). p m (getD xs i d)) (suc-add n i ∙ sym (add-suc n i)) ∙ h (suc i) (omega arith)))
+  numbered-at p d [] h i b = absurd (let z : ⊥ = omega arith in z)
+  numbered-at p d (x ∷ xs) h zero b = and-left (p 0 x) (allFrom p 1 xs) h
+  numbered-at p d (x ∷ xs) h (suc i) b =
+      numbered-at (λ m. p (suc m)) d xs (sym (numbered-shift p 0 xs) ∙ and-right (p 0 x) (allFrom p 1 xs) h) i (omega arith)
+
+  pub numbered-of : (p : ℕ → A → Bool) (d : A) (xs : List A) → ((i : ℕ) → i < length xs → p i (getD xs i d) ≡ true)
+      → allFrom p 0 xs ≡ true
+  unfolding allFrom
+  numbered-of p d [] h = refl
+  numbered-of p d (x ∷ xs) h =
+      and-both (h 0 (omega arith))
+      (numbered-shift p 0 xs ∙ numbered-of (λ m. p (suc m)) d xs (λ i b. h (suc i) (omega arith)))
+
+  module _ (p : ℕ → A → Bool) (xs : List A) (i : ℕ) where
+    pub numbered-stops : (d : A) → i < length xs → p i (getD xs i d) ≡ false → allFrom p i (drop i xs) ≡ false
+    unfolding allFrom
+    numbered-stops d below e = rw (drop-cons xs i d below, allFrom, e)
+
+    pub numbered-next : (d : A) → i < length xs → p i (getD xs i d) ≡ true
+        → allFrom p i (drop i xs) ≡ allFrom p (i + 1) (drop (i + 1) xs)
+    unfolding allFrom
+    numbered-next d below e = rw (add-one, drop-cons xs i d below, allFrom, e)
+
+    pub numbered-end : length xs ≤ i → allFrom p i (drop i xs) ≡ true
+    unfolding allFrom
+    numbered-end h = rw (drop-of-length-le xs h)
+
+  -- two tests that agree at every number that the list has
+  pub numbered-same : (p q : ℕ → A → Bool) (n : ℕ) (xs : List A) → ((i : ℕ) → i < n + length xs → (x : A) → p i x ≡ q i x)
+      → allFrom p n xs ≡ allFrom q n xs
+  unfolding allFrom
+  numbered-same p q n [] h = refl
+  numbered-same p q n (x ∷ xs) h =
+      ap₂ (λ (b c : Bool). b && c) (h n (omega arith) x) (numbered-same p q (suc n) xs (λ i b y. h i (omega arith) y))

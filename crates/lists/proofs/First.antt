@@ -1,37 +1,183 @@
--- A loop that searches a list from the front: at place i what is left to search is `drop i xs`. The place passes, it
--- does not and the search goes on at i + 1, or the list is at its end.
-use Prim.Native.Nat.{ℕ, _+_, _≤_, _<_}
-use mathlib.Core.Path.{_≡_}
-use mathlib.Core.Bool.{Bool, true, false}
-use mathlib.Core.List.{List}
-use mathlib.Core.Option.{none, some}
+-- The first place that passes, and the first element.
+use Prim.Native.Nat.{ℕ, zero, suc, _+_, _-_, _≤_, _<_}
+use mathlib.Core.Path.{_≡_, refl, sym, _∙_, ap}
+use mathlib.Core.Bool.{Bool, true, false, not, _&&_, false≢true, and-comm}
+use mathlib.Core.List.{List, [], _∷_, map}
+use mathlib.Core.Option.{Option, none, some, Option·some-injective}
 use native.Mathlib.Numerals.{add-one}
-use lib.ListN.{length, getD, drop, drop-of-length-le}
-use lib.Seq.{drop-cons}
-use Rattle.lists.specs.Lists.{any, firstFrom}
+use native.Mathlib.Omega.{arith}
+use lib.ListN.{length, getD, drop, drop-of-length-le, length-drop}
+use lib.Seq.{drop-cons, getD-drop}
+use Rattle.lists.specs.Lists.{all, any, keep, pairs, firstFrom, first, firstAfter, find, Permutation, nil, skip, swap, both}
+use Rattle.lists.proofs.Tests.{none≢some, by-cases, and-left, and-right, excluded}
+use Rattle.lists.proofs.Permutations.{perm-pairs}
 
-module _ {A : Type 0} (p : A → Bool) (xs : List A) (i : ℕ) where
-  pub first-here : (d : A) → i < length xs → p (getD xs i d) ≡ true → firstFrom p (drop i xs) i ≡ some i
+-- a place that a search finds: below the length, it passes, and no lower one from the start of the search does
+pub record Found {A : Type 0} (p : A → Bool) (xs : List A) (d : A) (n : ℕ) (k : ℕ) : Type 0 where
+  pub from : n ≤ k
+  pub below : k < length xs
+  pub passes : p (getD xs k d) ≡ true
+  pub lowest : (i : ℕ) → n ≤ i → i < k → p (getD xs i d) ≡ false
+
+module _ {A : Type 0} (p : A → Bool) where
+  -- by the first element
+  module _ (x : A) (xs : List A) (at : ℕ) where
+    here : p x ≡ true → firstFrom p (x ∷ xs) at ≡ some at
+    unfolding firstFrom
+    here e = rw (e, firstFrom)
+
+    next : p x ≡ false → firstFrom p (x ∷ xs) at ≡ firstFrom p xs (suc at)
+    unfolding firstFrom
+    next e = rw (e, firstFrom)
+
+  module _ (d : A) where
+    -- what is found stands at its place, counted from where the search starts
+    from-found : (xs : List A) (at k : ℕ) → firstFrom p xs at ≡ some k → (j : ℕ) × (k ≡ at + j) × Found p xs d 0 j
+    unfolding firstFrom
+    from-found [] at k h = absurd (none≢some h)
+    from-found (x ∷ xs) at k h = by-cases (p x) first-passes (λ e. later e (from-found xs (suc at) k (sym (next x xs at e) ∙ h)))
+      where
+        first-passes : p x ≡ true → (j : ℕ) × (k ≡ at + j) × Found p (x ∷ xs) d 0 j
+        first-passes e =
+            let z = Option·some-injective at k (sym (here x xs at e) ∙ h) in (
+              0,
+              omega arith,
+              record { from = omega arith; below = omega arith; passes = e; lowest = λ i a b. absurd (let w : ⊥ = omega arith in w) },
+            )
+
+        later : p x ≡ false → (j : ℕ) × (k ≡ suc at + j) × Found p xs d 0 j → (j : ℕ) × (k ≡ at + j) × Found p (x ∷ xs) d 0 j
+        later e q = (
+          suc (q .0),
+          omega (arith, q .1),
+          record { from = omega arith; below = omega (arith, q .2 .below); passes = q .2 .passes; lowest = lower },
+        )
+          where
+            lower : (i : ℕ) → 0 ≤ i → i < suc (q .0) → p (getD (x ∷ xs) i d) ≡ false
+            lower zero a b = e
+            lower (suc i) a b = q .2 .lowest i (omega arith) (omega arith)
+
+    pub after-found : (xs : List A) (n k : ℕ) → firstAfter p n xs ≡ some k → Found p xs d n k
+    unfolding firstAfter
+    after-found xs n k h =
+        let q = from-found (drop n xs) n k h in
+        let f = q .2 in
+        record {
+          from = omega (arith, q .1);
+          below = omega (arith, q .1, f .below, length-drop n xs);
+          passes = rw (q .1, ← getD-drop n xs (q .0) d) (f .passes);
+          lowest =
+              λ i a b.
+              let e : i ≡ n + (i - n) = omega arith in
+              ap (λ (m : ℕ). p (getD xs m d)) e ∙ rw (← getD-drop n xs (i - n) d) (f .lowest (i - n) (omega arith) (omega (arith, q .1)));
+        }
+
+    pub first-found : (xs : List A) (k : ℕ) → first p xs ≡ some k → Found p xs d 0 k
+    unfolding first firstAfter
+    first-found xs k h = after-found xs 0 k h
+
+  -- nothing is found exactly where nothing passes
+  from-none : (xs : List A) (at : ℕ) → firstFrom p xs at ≡ none → any p xs ≡ false
+  unfolding firstFrom any
+  from-none [] at h = refl
+  from-none (x ∷ xs) at h =
+      by-cases (p x) (λ e. absurd (none≢some (sym h ∙ here x xs at e)))
+      (λ e. rw e (from-none xs (suc at) (sym (next x xs at e) ∙ h)))
+
+  from-some : (xs : List A) (at : ℕ) → any p xs ≡ true → (k : ℕ) × (firstFrom p xs at ≡ some k)
+  unfolding firstFrom any
+  from-some [] at h = absurd (false≢true h)
+  from-some (x ∷ xs) at h =
+      by-cases (p x) (λ e. (at, here x xs at e))
+      (λ e. let q = from-some xs (suc at) (rw e at h) in (q .0, next x xs at e ∙ q .1))
+
+  pub first-none : (xs : List A) → first p xs ≡ none → any p xs ≡ false
+  unfolding first
+  first-none xs h = from-none xs 0 h
+
+  pub first-some : (xs : List A) → any p xs ≡ true → (k : ℕ) × (first p xs ≡ some k)
+  unfolding first
+  first-some xs h = from-some xs 0 h
+
+-- what a search from place i on answers: `answer` makes the answer of the place found
+abbrev pub answerFrom : {A R : Type 0} → (Option ℕ → R) → (A → Bool) → List A → ℕ → R
+answerFrom answer p xs i = answer (firstFrom p (drop i xs) i)
+
+module _ {A R : Type 0} (answer : Option ℕ → R) (p : A → Bool) (xs : List A) (i : ℕ) where
+  -- one step: b is what the code found of the element at place i
+  module _ (d : A) {b : Bool} (below : i < length xs) (judged : b ≡ p (getD xs i d)) where
+    pub answer-here : b ≡ true → answerFrom answer p xs i ≡ answer (some i)
+    unfolding firstFrom
+    answer-here e = rw (drop-cons xs i d below, firstFrom, ← judged, e)
+
+    pub answer-next : b ≡ false → answerFrom answer p xs i ≡ answerFrom answer p xs (i + 1)
+    unfolding firstFrom
+    answer-next e = rw (add-one, drop-cons xs i d below, firstFrom, ← judged, e)
+
+  pub answer-none : length xs ≤ i → answerFrom answer p xs i ≡ answer none
   unfolding firstFrom
-  first-here d h e = rw (drop-cons xs i d h, firstFrom, e)
+  answer-none h = rw (drop-of-length-le xs h)
 
-  pub first-next : (d : A) → i < length xs → p (getD xs i d) ≡ false
-      → firstFrom p (drop i xs) i ≡ firstFrom p (drop (i + 1) xs) (i + 1)
+-- a list made from another
+module _ {A B : Type 0} (f : A → B) (p : B → Bool) where
+  from-map : (xs : List A) (at : ℕ) → firstFrom p (map f xs) at ≡ firstFrom (λ x. p (f x)) xs at
   unfolding firstFrom
-  first-next d h e = rw (add-one, drop-cons xs i d h, firstFrom, e)
+  from-map [] at = refl
+  from-map (x ∷ xs) at = by-cases (p (f x)) (λ e. rw (e, firstFrom)) (λ e. rw (e, firstFrom) (from-map xs (suc at)))
 
-  pub first-none : length xs ≤ i → firstFrom p (drop i xs) i ≡ none
-  unfolding firstFrom
-  first-none h = rw (drop-of-length-le xs h)
+  pub first-map : (xs : List A) → first p (map f xs) ≡ first (λ x. p (f x)) xs
+  unfolding first
+  first-map xs = from-map xs 0
 
-  pub any-here : (d : A) → i < length xs → p (getD xs i d) ≡ true → any p (drop i xs) ≡ true
-  unfolding any
-  any-here d h e = rw (drop-cons xs i d h, any, e)
+-- the first element that passes
+module _ {A : Type 0} (p : A → Bool) where
+  module _ (x : A) (xs : List A) where
+    pub find-here : p x ≡ true → find p (x ∷ xs) ≡ some x
+    unfolding find
+    find-here e = rw (e, find)
 
-  pub any-next : (d : A) → i < length xs → p (getD xs i d) ≡ false → any p (drop i xs) ≡ any p (drop (i + 1) xs)
-  unfolding any
-  any-next d h e = rw (add-one, drop-cons xs i d h, any, e)
+    pub find-next : p x ≡ false → find p (x ∷ xs) ≡ find p xs
+    unfolding find
+    find-next e = rw (e, find)
 
-  pub any-none : length xs ≤ i → any p (drop i xs) ≡ false
-  unfolding any
-  any-none h = rw (drop-of-length-le xs h)
+  -- it stands at the first place that passes
+  find-from : (d : A) (xs : List A) (at : ℕ) (x : A) → find p xs ≡ some x
+      → (k : ℕ) × (firstFrom p xs at ≡ some (at + k)) × (getD xs k d ≡ x)
+  unfolding find
+  find-from d [] at x h = absurd (none≢some h)
+  find-from d (y ∷ ys) at x h =
+      by-cases (p y)
+      (λ e. (0, here p y ys at e ∙ ap some (omega arith), Option·some-injective y x (sym (find-here y ys e) ∙ h)))
+      (λ e.
+      let q = find-from d ys (suc at) x (sym (find-next y ys e) ∙ h) in
+      (suc (q .0), next p y ys at e ∙ q .1 ∙ ap some (omega arith), q .2))
+
+  pub find-found : (d : A) (xs : List A) (x : A) → find p xs ≡ some x
+      → (k : ℕ) × (first p xs ≡ some k) × (getD xs k d ≡ x)
+  unfolding first
+  find-found d xs x h = let q = find-from d xs 0 x h in (q .0, q .1 ∙ ap some (omega arith), q .2)
+
+  -- among those kept by a test that it passes
+  pub find-keep : (used : A → Bool) → ((x : A) → p x ≡ true → used x ≡ true) → (xs : List A) → find p (keep used xs) ≡ find p xs
+  unfolding find keep
+  find-keep used i [] = refl
+  find-keep used i (x ∷ xs) =
+      by-cases (p x) (λ e. rw (i x e, e, find))
+      (λ e. by-cases (used x) (λ u. rw (u, e, find, find-keep used i xs)) (λ u. rw (u, e, find, find-keep used i xs)))
+
+  -- no two pass: the order does not matter
+  abbrev pub apart : A → A → Bool
+  apart x y = not (p x && p y)
+
+  pub perm-apart : {xs ys : List A} → Permutation xs ys → pairs apart xs ≡ pairs apart ys
+  perm-apart q = perm-pairs apart (λ x y. ap not (and-comm (p x) (p y))) q
+
+  pub perm-find : {xs ys : List A} → Permutation xs ys → pairs apart xs ≡ true → find p xs ≡ find p ys
+  unfolding find pairs all
+  perm-find nil h = refl
+  perm-find (skip x {xs} {ys} q) h =
+      by-cases (p x) (λ e. rw (e, find)) (λ e. rw (e, find, perm-find q (and-right (all (apart x) xs) (pairs apart xs) h)))
+  perm-find (swap x y xs) h =
+      by-cases (p x)
+      (λ e. rw (find, excluded (p x) (p y) (and-left (apart x y) (all (apart x) xs) (and-left (all (apart x) (y ∷ xs)) (pairs apart (y ∷ xs)) h)) e, e))
+      (λ e. by-cases (p y) (λ f. rw (e, f, find)) (λ f. rw (e, f, find, e)))
+  perm-find (both q r) h = perm-find q h ∙ perm-find r (sym (perm-apart q) ∙ h)

@@ -1,116 +1,113 @@
--- The elements that pass, against the whole list.
-use Prim.Native.Nat.{ℕ, zero, suc, _+_, _≤_, _<_}
-use mathlib.Core.Path.{_≡_, refl, sym, _∙_, ap, ap₂}
-use mathlib.Core.Bool.{Bool, true, false, cond, not, _&&_, _||_, false≢true}
-use mathlib.Core.List.{List, [], _∷_, map}
-use native.Mathlib.Omega.{arith}
-use lib.ListN.{length, getD}
+-- The elements that pass.
+use Prim.Native.Nat.{ℕ, suc, _+_, _≤_, _<_}
+use mathlib.Core.Path.{_≡_, refl, sym, _∙_, ap}
+use mathlib.Core.Bool.{Bool, true, false, not, _&&_, _||_}
+use mathlib.Core.List.{List, [], _∷_, _++_, map}
+use lib.ListN.{length, getD, drop, drop-of-length-le}
+use borrow.Author.Tests.{not-true}
 use Rattle.lists.specs.Lists.{all, any, count, keep}
-use Rattle.lists.proofs.Tests.{and-left, and-right, and-both}
+use Rattle.lists.proofs.Tests.{by-cases, not-both, not-is, excluded, excludes, or-neither}
+use Rattle.lists.proofs.Places.{used-below, drop-next}
+use Rattle.lists.proofs.Any.{any-fails, none-of}
 
-module _ {A : Type 0} where
-  pub keep-yes : (p : A → Bool) (x : A) (xs : List A) → p x ≡ true → keep p (x ∷ xs) ≡ x ∷ keep p xs
+-- one element more
+module _ {A : Type 0} (p : A → Bool) (x : A) (xs : List A) where
+  pub keep-yes : p x ≡ true → keep p (x ∷ xs) ≡ x ∷ keep p xs
   unfolding keep
-  keep-yes p x xs e = rw e
+  keep-yes e = rw e
 
-  pub keep-no : (p : A → Bool) (x : A) (xs : List A) → p x ≡ false → keep p (x ∷ xs) ≡ keep p xs
+  pub keep-no : p x ≡ false → keep p (x ∷ xs) ≡ keep p xs
   unfolding keep
-  keep-no p x xs e = rw e
+  keep-no e = rw e
 
-  pub count-yes : (p : A → Bool) (x : A) (xs : List A) → p x ≡ true → count p (x ∷ xs) ≡ suc (count p xs)
-  unfolding count
-  count-yes p x xs e = rw e
+module _ {A : Type 0} (xs : List A) (i : ℕ) where
+  -- one step: the place has the first of them, or it is passed over
+  module _ (d : A) (below : i < length xs) (p : A → Bool) where
+    pub kept-here : p (getD xs i d) ≡ true → keep p (drop i xs) ≡ getD xs i d ∷ keep p (drop (i + 1) xs)
+    kept-here e = ap (keep p) (drop-next xs i d below) ∙ keep-yes p (getD xs i d) (drop (i + 1) xs) e
 
-  pub count-no : (p : A → Bool) (x : A) (xs : List A) → p x ≡ false → count p (x ∷ xs) ≡ count p xs
-  unfolding count
-  count-no p x xs e = rw e
+    pub kept-past : p (getD xs i d) ≡ false → keep p (drop i xs) ≡ keep p (drop (i + 1) xs)
+    kept-past e = ap (keep p) (drop-next xs i d below) ∙ keep-no p (getD xs i d) (drop (i + 1) xs) e
 
-  -- how many pass is how many are kept
-  pub length-keep : (p : A → Bool) (xs : List A) → length (keep p xs) ≡ count p xs
-  unfolding keep count
-  length-keep p [] = refl
-  length-keep p (x ∷ xs) = go (p x) refl (length-keep p xs)
-    where
-      go : (b : Bool) → p x ≡ b → length (keep p xs) ≡ count p xs → length (keep p (x ∷ xs)) ≡ count p (x ∷ xs)
-      go true e h = rw e (ap suc h)
-      go false e h = rw e h
+    -- a test of each of them
+    pub all-kept-fails : (q : A → Bool) → p (getD xs i d) ≡ true → q (getD xs i d) ≡ false → all q (keep p (drop i xs)) ≡ false
+    unfolding all
+    all-kept-fails q e f = rw (kept-here e, f)
+
+    pub all-kept-next : (q : A → Bool) → p (getD xs i d) ≡ true → q (getD xs i d) ≡ true
+        → all q (keep p (drop i xs)) ≡ all q (keep p (drop (i + 1) xs))
+    unfolding all
+    all-kept-next q e f = rw (kept-here e, f)
+
+  -- the end
+  module _ (past : length xs ≤ i) (p : A → Bool) where
+    pub kept-end : keep p (drop i xs) ≡ []
+    unfolding keep
+    kept-end = rw (drop-of-length-le xs past)
+
+    pub all-kept-end : (q : A → Bool) → all q (keep p (drop i xs)) ≡ true
+    unfolding all
+    all-kept-end q = rw kept-end
+
+-- a test of those kept is a test of all
+module _ {A : Type 0} (p q : A → Bool) where
+  pub all-keep : (xs : List A) → all q (keep p xs) ≡ all (λ x. not (p x) || q x) xs
+  unfolding all keep
+  all-keep [] = refl
+  all-keep (x ∷ xs) = by-cases (p x) (λ e. rw (e, all-keep xs)) (λ e. rw e (all-keep xs))
+
+  pub any-keep : (xs : List A) → any q (keep p xs) ≡ any (λ x. p x && q x) xs
+  unfolding any keep
+  any-keep [] = refl
+  any-keep (x ∷ xs) = by-cases (p x) (λ e. rw (e, any-keep xs)) (λ e. rw e (any-keep xs))
 
   -- a test that implies the first counts the same among those kept
-  pub count-keep : (p q : A → Bool) → ((x : A) → q x ≡ true → p x ≡ true) → (xs : List A) → count q (keep p xs) ≡ count q xs
+  pub count-keep : ((x : A) → q x ≡ true → p x ≡ true) → (xs : List A) → count q (keep p xs) ≡ count q xs
   unfolding keep count
-  count-keep p q i [] = refl
-  count-keep p q i (x ∷ xs) = go (p x) (q x) refl refl (count-keep p q i xs)
-    where
-      go : (b c : Bool) → p x ≡ b → q x ≡ c → count q (keep p xs) ≡ count q xs → count q (keep p (x ∷ xs)) ≡ count q (x ∷ xs)
-      go true true e f h = rw (e, f) (ap suc h)
-      go true false e f h = rw (e, f) h
-      go false true e f h = absurd (false≢true (sym e ∙ i x f))
-      go false false e f h = rw (e, f) h
+  count-keep i [] = refl
+  count-keep i (x ∷ xs) =
+      by-cases (p x) (λ e. rw (e, count-keep i xs))
+      (λ e. by-cases (q x) (λ f. absurd (not-both (i x f) e)) (λ f. rw (e, f) (count-keep i xs)))
 
-  -- keeping twice is keeping once by both
-  pub keep-keep : (p q : A → Bool) (xs : List A) → keep q (keep p xs) ≡ keep (λ x. p x && q x) xs
-  unfolding keep
-  keep-keep p q [] = refl
-  keep-keep p q (x ∷ xs) = go (p x) (q x) refl refl (keep-keep p q xs)
-    where
-      go : (b c : Bool) → p x ≡ b → q x ≡ c → keep q (keep p xs) ≡ keep (λ y. p y && q y) xs
-          → keep q (keep p (x ∷ xs)) ≡ keep (λ y. p y && q y) (x ∷ xs)
-      go true true e f h = rw (e, f) (ap {B = List A} (λ r. x ∷ r) h)
-      go true false e f h = rw (e, f) h
-      go false c e f h = rw e h
+  -- no kept element passes, as a statement about every place: past the end stands a default, which isn't kept
+  pub none-kept-at : (d : A) → p d ≡ false → (xs : List A) → any q (keep p xs) ≡ false
+      → (i : ℕ) → p (getD xs i d) ≡ true → q (getD xs i d) ≡ false
+  none-kept-at d e xs h i u =
+      excluded (p (getD xs i d)) (q (getD xs i d))
+      (not-is (any-fails (λ x. p x && q x) d xs (sym (any-keep xs) ∙ h) i (used-below p d e xs i u))) u
 
-  -- two tests that agree keep the same and count the same
-  pub keep-same : (p q : A → Bool) → ((x : A) → p x ≡ q x) → (xs : List A) → keep p xs ≡ keep q xs
-  unfolding keep
-  keep-same p q i [] = refl
-  keep-same p q i (x ∷ xs) = rw (i x, keep-same p q i xs)
+  pub none-kept-of : (d : A) (xs : List A) → ((i : ℕ) → p (getD xs i d) ≡ true → q (getD xs i d) ≡ false)
+      → any q (keep p xs) ≡ false
+  none-kept-of d xs h =
+      any-keep xs
+      ∙ none-of (λ x. p x && q x) d xs (λ i b. not-true _ (excludes (p (getD xs i d)) (q (getD xs i d)) (h i)))
 
-  pub count-same : (p q : A → Bool) → ((x : A) → p x ≡ q x) → (xs : List A) → count p xs ≡ count q xs
-  unfolding count
-  count-same p q i [] = refl
-  count-same p q i (x ∷ xs) = rw (i x, count-same p q i xs)
+module _ {A : Type 0} (p : A → Bool) where
+  -- how many pass is how many are kept
+  pub length-keep : (xs : List A) → length (keep p xs) ≡ count p xs
+  unfolding keep count
+  length-keep [] = refl
+  length-keep (x ∷ xs) = by-cases (p x) (λ e. rw (e, length-keep xs)) (λ e. rw e (length-keep xs))
 
-  pub any-same : (p q : A → Bool) → ((x : A) → p x ≡ q x) → (xs : List A) → any p xs ≡ any q xs
-  unfolding any
-  any-same p q i [] = refl
-  any-same p q i (x ∷ xs) = rw (i x, any-same p q i xs)
-
-  -- none counted, none kept, none found
-  pub any-count : (p : A → Bool) (xs : List A) → any p xs ≡ false → count p xs ≡ 0
-  unfolding any count
-  any-count p [] h = refl
-  any-count p (x ∷ xs) h = go (p x) refl h (any-count p xs)
-    where
-      go : (b : Bool) → p x ≡ b → (p x || any p xs) ≡ false → (any p xs ≡ false → count p xs ≡ 0) → count p (x ∷ xs) ≡ 0
-      go true e f k = absurd (false≢true (sym f ∙ rw e))
-      go false e f k = rw e (k (rw e at f))
-
-  pub count-any : (p : A → Bool) (xs : List A) → any p xs ≡ true → 0 < count p xs
-  unfolding any count
-  count-any p [] h = absurd (false≢true h)
-  count-any p (x ∷ xs) h = go (p x) refl h (count-any p xs)
-    where
-      go : (b : Bool) → p x ≡ b → (p x || any p xs) ≡ true → (any p xs ≡ true → 0 < count p xs) → 0 < count p (x ∷ xs)
-      go true e f k = rw e (omega arith)
-      go false e f k = rw e (k (rw e at f))
-
-  -- a test of those kept is a guarded test of all
-  pub all-keep : (p q : A → Bool) (xs : List A) → all q (keep p xs) ≡ all (λ x. not (p x) || q x) xs
-  unfolding all keep
-  all-keep p q [] = refl
-  all-keep p q (x ∷ xs) = go (p x) refl (all-keep p q xs)
-    where
-      go : (b : Bool) → p x ≡ b → all q (keep p xs) ≡ all (λ y. not (p y) || q y) xs
-          → all q (keep p (x ∷ xs)) ≡ all (λ y. not (p y) || q y) (x ∷ xs)
-      go true e h = rw e (ap (λ (r : Bool). q x && r) h)
-      go false e h = rw e h
-
-  pub any-keep : (p q : A → Bool) (xs : List A) → any q (keep p xs) ≡ any (λ x. p x && q x) xs
+  -- no element passes: none is kept, and by the opposite test all are
+  pub keep-none : (xs : List A) → any p xs ≡ false → keep p xs ≡ []
   unfolding any keep
-  any-keep p q [] = refl
-  any-keep p q (x ∷ xs) = go (p x) refl (any-keep p q xs)
-    where
-      go : (b : Bool) → p x ≡ b → any q (keep p xs) ≡ any (λ y. p y && q y) xs
-          → any q (keep p (x ∷ xs)) ≡ any (λ y. p y && q y) (x ∷ xs)
-      go true e h = rw e (ap (λ (r : Bool). q x || r) h)
-      go false e h = rw e h
+  keep-none [] h = refl
+  keep-none (x ∷ xs) h = let n = or-neither (p x) (any p xs) h in rw (n .0) (keep-none xs (n .1))
+
+  pub keep-others : (xs : List A) → any p xs ≡ false → keep (λ x. not (p x)) xs ≡ xs
+  unfolding any keep
+  keep-others [] h = refl
+  keep-others (x ∷ xs) h = let n = or-neither (p x) (any p xs) h in rw (n .0, keep-others xs (n .1))
+
+  -- two lists one after the other
+  pub keep-append : (xs ys : List A) → keep p (xs ++ ys) ≡ keep p xs ++ keep p ys
+  unfolding keep
+  keep-append [] ys = refl
+  keep-append (x ∷ xs) ys = by-cases (p x) (λ e. rw (e, keep-append xs ys)) (λ e. rw e (keep-append xs ys))
+
+-- a list made from another
+pub keep-map : {A B : Type 0} (f : A → B) (p : B → Bool) (xs : List A) → keep p (map f xs) ≡ map f (keep (λ x. p (f x)) xs)
+unfolding keep
+keep-map f p [] = refl
+keep-map f p (x ∷ xs) = by-cases (p (f x)) (λ e. rw (e, keep-map f p xs)) (λ e. rw e (keep-map f p xs))

@@ -1,21 +1,15 @@
--- Laws on lists, each about one thing.
+-- Laws on lists, a file for each operator: at a place, one step of a loop from the front, at the end, then with the
+-- other operators.
 pub mod Tests
+pub mod Places
+pub mod Same
 pub mod All
+pub mod Any
+pub mod Count
 pub mod Keep
 pub mod Pairs
-pub mod Find
-pub mod Scan
-pub mod Passes
 pub mod First
-pub mod Set
-pub mod Slots
-pub mod Default
-pub mod Counting
 pub mod Permutations
-pub mod PairsPerm
-pub mod FirstElement
+pub mod Set
 pub mod Pigeonhole
-pub mod Writes
-pub mod Sweeps
-pub mod Lookups
-pub mod Searches
+pub mod Keyed

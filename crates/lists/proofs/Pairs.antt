@@ -1,15 +1,16 @@
--- A test of every pair, as a statement about every two places.
-use Prim.Native.Nat.{ℕ, zero, suc, _≤_, _<_}
+-- Every element passes against every later one.
+use Prim.Native.Nat.{ℕ, zero, suc, _+_, _≤_, _<_}
 use mathlib.Core.Path.{_≡_, refl, sym, _∙_, ap, ap₂}
-use mathlib.Core.Bool.{Bool, true, false, cond, not, _&&_, _||_, false≢true}
-use mathlib.Core.List.{List, [], _∷_}
+use mathlib.Core.Bool.{Bool, true, false, not, _&&_, _||_}
+use mathlib.Core.List.{List, [], _∷_, map}
 use native.Mathlib.Omega.{arith}
-use lib.ListN.{length, getD}
+use lib.ListN.{length, getD, drop}
 use Rattle.lists.specs.Lists.{all, pairs, keep}
-use Rattle.lists.proofs.Tests.{tested, and-left, and-right, and-both, guarded, guard}
-use Rattle.lists.proofs.All.{all-at, all-of}
-use Rattle.lists.proofs.Keep.{all-keep, keep-yes, keep-no}
+use Rattle.lists.proofs.Tests.{by-cases, and-left, and-right, and-both, guarded, guard}
+use Rattle.lists.proofs.All.{all-at, all-of, all-map}
+use Rattle.lists.proofs.Keep.{all-keep, kept-here, kept-end}
 
+-- at every two places
 module _ {A : Type 0} (r : A → A → Bool) (d : A) where
   pub pairs-at : (xs : List A) → pairs r xs ≡ true → (i j : ℕ) → i < j → j < length xs → r (getD xs i d) (getD xs j d) ≡ true
   unfolding pairs
@@ -18,47 +19,57 @@ module _ {A : Type 0} (r : A → A → Bool) (d : A) where
   pairs-at (x ∷ xs) h zero (suc j) a b = all-at (r x) d xs (and-left (all (r x) xs) (pairs r xs) h) j (omega arith)
   pairs-at (x ∷ xs) h (suc i) (suc j) a b = pairs-at xs (and-right (all (r x) xs) (pairs r xs) h) i j (omega arith) (omega arith)
 
-  pub pairs-of : (xs : List A) → ((i j : ℕ) → i < j → j < length xs → r (getD xs i d) (getD xs j d) ≡ true) → pairs r xs ≡ true
+  pairs-of : (xs : List A) → ((i j : ℕ) → i < j → j < length xs → r (getD xs i d) (getD xs j d) ≡ true) → pairs r xs ≡ true
   unfolding pairs
   pairs-of [] h = refl
   pairs-of (x ∷ xs) h =
       and-both (all-of (r x) d xs (λ j b. h 0 (suc j) (omega arith) (omega arith)))
       (pairs-of xs (λ i j a b. h (suc i) (suc j) (omega arith) (omega arith)))
 
--- the same among those kept: every two places that are
-module _ {A : Type 0} (p : A → Bool) (r : A → A → Bool) (d : A) where
-  pub pairs-keep-at : (xs : List A) → pairs r (keep p xs) ≡ true
-      → (i j : ℕ) → i < j → j < length xs → p (getD xs i d) ≡ true → p (getD xs j d) ≡ true → r (getD xs i d) (getD xs j d) ≡ true
-  unfolding pairs
-  pairs-keep-at [] h i j a b pi pj = absurd (let z : ⊥ = omega arith in z)
-  pairs-keep-at (x ∷ xs) h i zero a b pi pj = absurd (let z : ⊥ = omega arith in z)
-  pairs-keep-at (x ∷ xs) h zero (suc j) a b pi pj =
-      guarded (p (getD xs j d)) (r x (getD xs j d))
-      (all-at (λ y. not (p y) || r x y) d xs
-      (sym (all-keep p (r x) xs) ∙ and-left (all (r x) (keep p xs)) (pairs r (keep p xs)) (rw (keep-yes p x xs pi) at h)) j
-      (omega arith))
-      pj
-  pairs-keep-at (x ∷ xs) h (suc i) (suc j) a b pi pj =
-      pairs-keep-at xs (go (p x) refl) i j (omega arith) (omega arith) pi pj
-    where
-      go : (b : Bool) → p x ≡ b → pairs r (keep p xs) ≡ true
-      go true e = and-right (all (r x) (keep p xs)) (pairs r (keep p xs)) (rw (keep-yes p x xs e) at h)
-      go false e = rw (keep-no p x xs e) at h
+-- the same among those kept: a test of every two of them is a test of every two
+module _ {A : Type 0} (p : A → Bool) (r : A → A → Bool) where
+  abbrev both-kept : A → A → Bool
+  both-kept x y = not (p x && p y) || r x y
 
-  pub pairs-keep-of : (xs : List A)
-      → ((i j : ℕ) → i < j → j < length xs → p (getD xs i d) ≡ true → p (getD xs j d) ≡ true → r (getD xs i d) (getD xs j d) ≡ true)
-      → pairs r (keep p xs) ≡ true
+  pairs-keep : (xs : List A) → pairs r (keep p xs) ≡ pairs both-kept xs
   unfolding pairs keep
-  pairs-keep-of [] h = refl
-  pairs-keep-of (x ∷ xs) h =
-      go (p x) refl (pairs-keep-of xs (λ i j a b. h (suc i) (suc j) (omega arith) (omega arith)))
+  pairs-keep [] = refl
+  pairs-keep (x ∷ xs) =
+      by-cases (p x) (λ e. rw (e, pairs-keep xs, all-keep p (r x) xs) (ap passed (sym e)))
+      (λ e. rw (e, pairs-keep xs) (sym (ap passed e ∙ rw (all-of (λ y. true) x xs (λ i b. refl)))))
     where
-      first-passes : p x ≡ true → all (r x) (keep p xs) ≡ true
-      first-passes e =
-          all-keep p (r x) xs
-          ∙ all-of (λ y. not (p y) || r x y) d xs
-          (λ j b. guard (p (getD xs j d)) (r x (getD xs j d)) (λ pj. h 0 (suc j) (omega arith) (omega arith) e pj))
+      passed : Bool → Bool
+      passed b = all (λ y. not (b && p y) || r x y) xs && pairs both-kept xs
 
-      go : (b : Bool) → p x ≡ b → pairs r (keep p xs) ≡ true → pairs r (keep p (x ∷ xs)) ≡ true
-      go true e k = rw (keep-yes p x xs e) (and-both (first-passes e) k)
-      go false e k = rw (keep-no p x xs e) k
+  module _ (d : A) (xs : List A) where
+    pub pairs-keep-at : pairs r (keep p xs) ≡ true → (i j : ℕ) → i < j → j < length xs
+        → p (getD xs i d) ≡ true → p (getD xs j d) ≡ true → r (getD xs i d) (getD xs j d) ≡ true
+    pairs-keep-at h i j a b pi pj =
+        guarded _ _ (pairs-at both-kept d xs (sym (pairs-keep xs) ∙ h) i j a b) (and-both pi pj)
+
+    pub pairs-keep-of : ((i j : ℕ) → i < j → j < length xs → p (getD xs i d) ≡ true → p (getD xs j d) ≡ true
+        → r (getD xs i d) (getD xs j d) ≡ true) → pairs r (keep p xs) ≡ true
+    pairs-keep-of h =
+        pairs-keep xs
+        ∙ pairs-of both-kept d xs
+        (λ i j a b.
+        let x = getD xs i d in
+        let y = getD xs j d in
+        guard (p x && p y) (r x y) (λ e. h i j a b (and-left (p x) (p y) e) (and-right (p x) (p y) e)))
+
+-- one step, and the end
+module _ {A : Type 0} (xs : List A) (i : ℕ) where
+  pub pairs-kept : (d : A) → i < length xs → (p : A → Bool) (r : A → A → Bool) → p (getD xs i d) ≡ true
+      → pairs r (keep p (drop i xs)) ≡ (all (r (getD xs i d)) (keep p (drop (i + 1) xs)) && pairs r (keep p (drop (i + 1) xs)))
+  unfolding pairs
+  pairs-kept d below p r e = rw (kept-here xs i d below p e)
+
+  pub pairs-kept-end : length xs ≤ i → (p : A → Bool) (r : A → A → Bool) → pairs r (keep p (drop i xs)) ≡ true
+  unfolding pairs
+  pairs-kept-end past p r = rw (kept-end xs i past p)
+
+-- a list made from another
+pub pairs-map : {A B : Type 0} (f : A → B) (r : B → B → Bool) (xs : List A) → pairs r (map f xs) ≡ pairs (λ x y. r (f x) (f y)) xs
+unfolding pairs
+pairs-map f r [] = refl
+pairs-map f r (x ∷ xs) = ap₂ (λ (b c : Bool). b && c) (all-map f (r (f x)) xs) (pairs-map f r xs)

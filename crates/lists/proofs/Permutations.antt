@@ -1,18 +1,15 @@
--- Permutations: what does not depend on the order, and how a list changes by one place.
-use Prim.Native.Nat.{ℕ, zero, suc, _+_, _≤_, _<_}
+-- A list in another order: what does not depend on it.
+use Prim.Native.Nat.{ℕ, zero, suc, _+_, _<_}
 use mathlib.Core.Path.{_≡_, refl, sym, _∙_, ap, ap₂, subst}
-use mathlib.Core.Bool.{Bool, true, false, cond, not, _&&_, _||_, false≢true}
+use mathlib.Core.Bool.{Bool, true, false, not, _&&_}
 use mathlib.Core.List.{List, [], _∷_}
 use native.Mathlib.Omega.{arith}
+use lib.Dec.{eqb}
 use lib.ListN.{length, getD, set}
-use Rattle.lists.specs.Lists.{any, count, keep, Permutation, nil, skip, swap, both}
-use Rattle.lists.proofs.Keep.{keep-yes, keep-no, count-yes, count-no}
-
-or-swap : (a b c : Bool) → (a || (b || c)) ≡ (b || (a || c))
-or-swap true true c = refl
-or-swap true false c = refl
-or-swap false true c = refl
-or-swap false false c = refl
+use Rattle.lists.specs.Lists.{all, any, count, keep, pairs, Permutation, nil, skip, swap, both}
+use Rattle.lists.proofs.Tests.{by-cases, and-swap, and-exchange}
+use Rattle.lists.proofs.Count.{count-some}
+use Rattle.lists.proofs.Keep.{keep-yes, keep-no, length-keep}
 
 module _ {A : Type 0} where
   pub perm-refl : (xs : List A) → Permutation xs xs
@@ -34,74 +31,54 @@ module _ {A : Type 0} where
   perm-length (swap x y xs) = refl
   perm-length (both h k) = perm-length h ∙ perm-length k
 
-  pub perm-any : (p : A → Bool) {xs ys : List A} → Permutation xs ys → any p xs ≡ any p ys
-  unfolding any
-  perm-any p nil = refl
-  perm-any p (skip x h) = ap (λ (b : Bool). p x || b) (perm-any p h)
-  perm-any p (swap x y xs) = or-swap (p x) (p y) (any p xs)
-  perm-any p (both h k) = perm-any p h ∙ perm-any p k
+  module _ (p : A → Bool) where
+    pub perm-keep : {xs ys : List A} → Permutation xs ys → Permutation (keep p xs) (keep p ys)
+    unfolding keep
+    perm-keep nil = nil
+    perm-keep (skip x h) = by-cases (p x) (λ e. rw e (skip x (perm-keep h))) (λ e. rw e (perm-keep h))
+    perm-keep (swap x y xs) =
+        by-cases (p x)
+        (λ e. by-cases (p y) (λ f. rw (e, f) (swap x y (keep p xs))) (λ f. rw (e, f) (perm-refl (x ∷ keep p xs))))
+        (λ e. rw e (perm-refl (keep p (y ∷ xs))))
+    perm-keep (both h k) = both (perm-keep h) (perm-keep k)
 
-  pub perm-keep : (p : A → Bool) {xs ys : List A} → Permutation xs ys → Permutation (keep p xs) (keep p ys)
-  unfolding keep
-  perm-keep p nil = nil
-  perm-keep p (skip x {xs} {ys} h) = go (p x) (perm-keep p h)
-    where
-      go : (b : Bool) → Permutation (keep p xs) (keep p ys) → Permutation (cond b (x ∷ keep p xs) (keep p xs)) (cond b (x ∷ keep p ys) (keep p ys))
-      go true k = skip x k
-      go false k = k
-  perm-keep p (swap x y xs) = go (p x) (p y)
-    where
-      go : (b c : Bool)
-          → Permutation (cond b (x ∷ cond c (y ∷ keep p xs) (keep p xs)) (cond c (y ∷ keep p xs) (keep p xs)))
-          (cond c (y ∷ cond b (x ∷ keep p xs) (keep p xs)) (cond b (x ∷ keep p xs) (keep p xs)))
-      go true true = swap x y (keep p xs)
-      go true false = perm-refl (x ∷ keep p xs)
-      go false true = perm-refl (y ∷ keep p xs)
-      go false false = perm-refl (keep p xs)
-  perm-keep p (both h k) = both (perm-keep p h) (perm-keep p k)
+    pub perm-count : {xs ys : List A} → Permutation xs ys → count p xs ≡ count p ys
+    perm-count {xs} {ys} h = sym (length-keep p xs) ∙ perm-length (perm-keep h) ∙ length-keep p ys
 
-  pub perm-count : (p : A → Bool) {xs ys : List A} → Permutation xs ys → count p xs ≡ count p ys
-  unfolding count
-  perm-count p nil = refl
-  perm-count p (skip x {xs} {ys} h) = ap (λ (n : ℕ). cond (p x) (suc n) n) (perm-count p h)
-  perm-count p (swap x y xs) = go (p x) (p y)
-    where
-      go : (b c : Bool)
-          → cond b (suc (cond c (suc (count p xs)) (count p xs))) (cond c (suc (count p xs)) (count p xs))
-          ≡ cond c (suc (cond b (suc (count p xs)) (count p xs))) (cond b (suc (count p xs)) (count p xs))
-      go true true = refl
-      go true false = refl
-      go false true = refl
-      go false false = refl
-  perm-count p (both h k) = perm-count p h ∙ perm-count p k
+    pub perm-any : {xs ys : List A} → Permutation xs ys → any p xs ≡ any p ys
+    perm-any {xs} {ys} h = sym (count-some p xs) ∙ ap (λ (n : ℕ). not (eqb n 0)) (perm-count h) ∙ count-some p ys
 
-  -- a place that failed takes a record that passes: one more is kept
-  pub keep-set-in : (p : A → Bool) (d : A) (xs : List A) (i : ℕ) (y : A) → i < length xs → p (getD xs i d) ≡ false → p y ≡ true
-      → Permutation (keep p (set xs i y)) (y ∷ keep p xs)
-  keep-set-in p d [] i y b e f = absurd (let z : ⊥ = omega arith in z)
-  keep-set-in p d (x ∷ xs) zero y b e f =
-      perm-eq (keep-yes p y xs f ∙ ap {B = List A} (λ r. y ∷ r) (sym (keep-no p x xs e)))
-  keep-set-in p d (x ∷ xs) (suc i) y b e f = go (p x) refl (keep-set-in p d xs i y (omega arith) e f)
-    where
-      go : (c : Bool) → p x ≡ c → Permutation (keep p (set xs i y)) (y ∷ keep p xs) → Permutation (keep p (x ∷ set xs i y)) (y ∷ keep p (x ∷ xs))
-      go true g h =
-          both (perm-eq (keep-yes p x (set xs i y) g))
-          (both (skip x h) (both (swap x y (keep p xs)) (skip y (perm-eq (sym (keep-yes p x xs g))))))
-      go false g h = both (perm-eq (keep-no p x (set xs i y) g)) (both h (skip y (perm-eq (sym (keep-no p x xs g)))))
+    perm-all : {xs ys : List A} → Permutation xs ys → all p xs ≡ all p ys
+    unfolding all
+    perm-all nil = refl
+    perm-all (skip x h) = ap (λ (b : Bool). p x && b) (perm-all h)
+    perm-all (swap x y xs) = and-swap (p x) (p y) (all p xs)
+    perm-all (both h k) = perm-all h ∙ perm-all k
 
-  -- a place that passed takes one that fails: what stood there goes
-  pub keep-set-gone : (p : A → Bool) (d : A) (xs : List A) (i : ℕ) (y : A) → i < length xs → p (getD xs i d) ≡ true → p y ≡ false
-      → Permutation (keep p xs) (getD xs i d ∷ keep p (set xs i y))
-  keep-set-gone p d [] i y b e f = absurd (let z : ⊥ = omega arith in z)
-  keep-set-gone p d (x ∷ xs) zero y b e f =
-      perm-eq (keep-yes p x xs e ∙ ap {B = List A} (λ r. x ∷ r) (sym (keep-no p y xs f)))
-  keep-set-gone p d (x ∷ xs) (suc i) y b e f = go (p x) refl (keep-set-gone p d xs i y (omega arith) e f)
-    where
-      o : A
-      o = getD xs i d
+  -- a test of every pair that doesn't depend on their order doesn't depend on that of the list
+  module _ (r : A → A → Bool) (s : (x y : A) → r x y ≡ r y x) where
+    pub perm-pairs : {xs ys : List A} → Permutation xs ys → pairs r xs ≡ pairs r ys
+    unfolding pairs all
+    perm-pairs nil = refl
+    perm-pairs (skip x {xs} {ys} h) = ap₂ (λ (a b : Bool). a && b) (perm-all (r x) h) (perm-pairs h)
+    perm-pairs (swap x y xs) = rw (s x y) (and-exchange (r y x) (all (r x) xs) (all (r y) xs) (pairs r xs))
+    perm-pairs (both h k) = perm-pairs h ∙ perm-pairs k
 
-      go : (c : Bool) → p x ≡ c → Permutation (keep p xs) (o ∷ keep p (set xs i y)) → Permutation (keep p (x ∷ xs)) (o ∷ keep p (x ∷ set xs i y))
-      go true g h =
-          both (perm-eq (keep-yes p x xs g))
-          (both (skip x h) (both (swap x o (keep p (set xs i y))) (skip o (perm-eq (sym (keep-yes p x (set xs i y) g))))))
-      go false g h = both (perm-eq (keep-no p x xs g)) (both h (skip o (perm-eq (sym (keep-no p x (set xs i y) g)))))
+  -- one place set: the new list with what stood there is the old one with what is there now
+  module _ (d : A) where
+    pub perm-set : (xs : List A) (i : ℕ) (y : A) → i < length xs → Permutation (getD xs i d ∷ set xs i y) (y ∷ xs)
+    perm-set [] i y b = absurd (let z : ⊥ = omega arith in z)
+    perm-set (x ∷ xs) zero y b = swap x y xs
+    perm-set (x ∷ xs) (suc i) y b =
+        both (swap (getD xs i d) x (set xs i y)) (both (skip x (perm-set xs i y (omega arith))) (swap x y xs))
+
+  module _ (p : A → Bool) (d : A) (xs : List A) (i : ℕ) (y : A) (b : i < length xs) where
+    -- a place that failed takes a record that passes: one more is kept
+    pub keep-set-in : p (getD xs i d) ≡ false → p y ≡ true → Permutation (keep p (set xs i y)) (y ∷ keep p xs)
+    keep-set-in e f =
+        rw (keep-no p (getD xs i d) (set xs i y) e, keep-yes p y xs f) at (perm-keep p (perm-set d xs i y b))
+
+    -- a place that passed takes one that fails: what stood there goes
+    pub keep-set-gone : p (getD xs i d) ≡ true → p y ≡ false → Permutation (keep p xs) (getD xs i d ∷ keep p (set xs i y))
+    keep-set-gone e f =
+        perm-sym (rw (keep-yes p (getD xs i d) (set xs i y) e, keep-no p y xs f) at (perm-keep p (perm-set d xs i y b)))

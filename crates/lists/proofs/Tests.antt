@@ -1,32 +1,38 @@
 -- Tests and the facts that they decide.
-use Prim.Native.Nat.{ℕ, _≤_, _<_}
+use Prim.Native.Nat.{ℕ, _≤_}
 use mathlib.Core.Path.{_≡_, refl, sym, _∙_, ap, ap₂}
-use mathlib.Core.Bool.{Bool, true, false, not, cond, _&&_, _||_, true≢false, false≢true}
-use mathlib.Core.List.{List, [], _∷_}
+use mathlib.Core.Bool.{Bool, true, false, not, cond, Bool·beq, _&&_, _||_, true≢false, false≢true}
 use mathlib.Core.Logic.{_↔_, _⊎_, inl, inr}
 use mathlib.Core.Option.{Option, none, some}
 use native.Mathlib.Omega.{arith}
-use lib.Dec.{eqb, leb, ltb}
-use borrow.Author.Tests.{eqb-true, eqb-false, eq-eqb, ne-eqb, leb-true, le-leb, ltb-true, lt-ltb, not-true}
-use Rattle.lists.specs.Lists.{same, isEmpty}
+use lib.Dec.{eqb, leb}
+use borrow.Author.Tests.{eqb-true, eq-eqb, leb-true, le-leb, not-true}
 
 -- nothing is no value
 pub none≢some : {A : Type 0} {a : A} → Path (Option A) none (some a) → ⊥
 none≢some e = let z : _≡_ {A = ℕ} 0 1 = cc in omega arith
 
 -- a test passes or fails
-pub tested : (b : Bool) → (b ≡ true) ⊎ (b ≡ false)
-tested true = inl refl
-tested false = inr refl
+pub by-cases : {P : Type 0} (b : Bool) → (b ≡ true → P) → (b ≡ false → P) → P
+by-cases true f g = f refl
+by-cases false f g = g refl
 
 pub not-both : {b : Bool} → b ≡ true → b ≡ false → ⊥
 not-both p q = true≢false (sym p ∙ q)
+
+-- a test that cannot pass fails
+pub refuted : (b : Bool) → (b ≡ true → ⊥) → b ≡ false
+refuted b h = by-cases b (λ e. absurd (h e)) (λ e. e)
 
 pub not-is : {b : Bool} → b ≡ false → not b ≡ true
 not-is p = ap not p
 
 pub not-isn't : {b : Bool} → b ≡ true → not b ≡ false
 not-isn't p = ap not p
+
+-- a test that decides something fails where that does not hold
+pub fails-iff : {b : Bool} {P : Type 0} → (b ≡ true) ↔ P → (b ≡ false) ↔ (P → ⊥)
+fails-iff {b} d = (λ h p. not-both (d .1 p) h, λ n. refuted b (λ h. n (d .0 h)))
 
 pub not-iff : (b : Bool) → (not b ≡ true) ↔ (b ≡ false)
 not-iff b = (not-true b, not-is)
@@ -46,9 +52,27 @@ and-both {a} {b} p q = ap₂ (λ (x y : Bool). x && y) p q
 pub and-iff : (a b : Bool) → ((a && b) ≡ true) ↔ ((a ≡ true) × (b ≡ true))
 and-iff a b = (λ h. (and-left a b h, and-right a b h), λ h. and-both (h .0) (h .1))
 
-pub and-fails : (a b : Bool) → a ≡ true → (a && b) ≡ false → b ≡ false
-and-fails true b p q = q
-and-fails false b p q = absurd (false≢true p)
+-- two tests that exclude each other
+pub excluded : (a b : Bool) → not (a && b) ≡ true → a ≡ true → b ≡ false
+excluded true b h p = not-true b h
+excluded false b h p = absurd (false≢true p)
+
+pub excludes : (a b : Bool) → (a ≡ true → b ≡ false) → not (a && b) ≡ true
+excludes true b h = ap not (h refl)
+excludes false b h = refl
+
+pub exclude-iff : {a b : Bool} {P Q : Type 0} → (a ≡ true) ↔ P → (b ≡ false) ↔ Q → (not (a && b) ≡ true) ↔ (P → Q)
+exclude-iff {a} {b} d e = (λ h p. e .0 (excluded a b h (d .1 p)), λ n. excludes a b (λ h. e .1 (n (d .0 h))))
+
+-- four tests in another order
+pub and-swap : (a b c : Bool) → (a && (b && c)) ≡ (b && (a && c))
+and-swap true b c = refl
+and-swap false true c = refl
+and-swap false false c = refl
+
+pub and-exchange : (a b c d : Bool) → ((a && b) && (c && d)) ≡ ((a && c) && (b && d))
+and-exchange true b c d = and-swap b c d
+and-exchange false b c d = refl
 
 -- disjunction
 pub or-cases : (a b : Bool) → (a || b) ≡ true → (a ≡ true) ⊎ (b ≡ true)
@@ -75,45 +99,30 @@ pub guard : (a b : Bool) → (a ≡ true → b ≡ true) → (not a || b) ≡ tr
 guard true b h = h refl
 guard false b h = refl
 
--- one of two tests, by a third
+pub guard-iff : (a b : Bool) → ((not a || b) ≡ true) ↔ (a ≡ true → b ≡ true)
+guard-iff a b = (guarded a b, guard a b)
+
+-- two tests that agree
+pub beq-iff : (a b : Bool) → (Bool·beq a b ≡ true) ↔ (a ≡ b)
+beq-iff true true = (λ h. refl, λ e. refl)
+beq-iff true false = (sym, sym)
+beq-iff false true = (λ h. h, λ e. e)
+beq-iff false false = (λ h. refl, λ e. refl)
+
+-- one of two values, by a test
 pub cond-true : {A : Type 0} {b : Bool} (x y : A) → b ≡ true → cond b x y ≡ x
 cond-true x y p = ap (λ (b : Bool). cond b x y) p
 
 pub cond-false : {A : Type 0} {b : Bool} (x y : A) → b ≡ false → cond b x y ≡ y
 cond-false x y p = ap (λ (b : Bool). cond b x y) p
 
+-- 1 where the test passes, else 0
+abbrev pub one : Bool → ℕ
+one b = cond b 1 0
+
 -- numbers
 pub eqb-iff : (m n : ℕ) → (eqb m n ≡ true) ↔ (m ≡ n)
 eqb-iff m n = (eqb-true m n, eq-eqb m n)
 
-pub eqb-same : (n : ℕ) → eqb n n ≡ true
-eqb-same n = eq-eqb n n refl
-
 pub leb-iff : (m n : ℕ) → (leb m n ≡ true) ↔ (m ≤ n)
 leb-iff m n = (leb-true m n, le-leb m n)
-
-pub ltb-iff : (m n : ℕ) → (ltb m n ≡ true) ↔ (m < n)
-ltb-iff m n = (ltb-true m n, lt-ltb m n)
-
--- lists of numbers
-pub same-is : (xs ys : List ℕ) → same xs ys ≡ true → xs ≡ ys
-unfolding same
-same-is [] [] h = refl
-same-is [] (y ∷ ys) h = absurd (false≢true h)
-same-is (x ∷ xs) [] h = absurd (false≢true h)
-same-is (x ∷ xs) (y ∷ ys) h =
-    ap₂ (λ (n : ℕ) (ns : List ℕ). n ∷ ns) (eqb-true x y (and-left (eqb x y) (same xs ys) h))
-    (same-is xs ys (and-right (eqb x y) (same xs ys) h))
-
-pub same-self : (xs : List ℕ) → same xs xs ≡ true
-unfolding same
-same-self [] = refl
-same-self (x ∷ xs) = and-both (eqb-same x) (same-self xs)
-
-pub same-iff : (xs ys : List ℕ) → (same xs ys ≡ true) ↔ (xs ≡ ys)
-same-iff xs ys = (same-is xs ys, λ e. ap (same xs) (sym e) ∙ same-self xs)
-
-pub empty-is : (xs : List ℕ) → isEmpty xs ≡ true → xs ≡ []
-unfolding isEmpty
-empty-is [] h = refl
-empty-is (x ∷ xs) h = absurd (false≢true h)

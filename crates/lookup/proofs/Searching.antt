@@ -8,7 +8,7 @@ use mathlib.Core.Option.{none, some}
 use native.Mathlib.Omega.{arith}
 use lib.ListN.{length, getD}
 use Rattle.lists.specs.Lists.{first}
-use Rattle.lists.proofs.Lookups.{answerFrom, answer-here, answer-next, answer-none}
+use Rattle.lists.proofs.First.{answerFrom, answer-here, answer-next, answer-none}
 use Rattle.records.specs.Sizes.{linkSlots}
 use Rattle.records.specs.Namespace.{namespace}
 use Rattle.records.specs.declared.FileNo.{FileNo}

@@ -8,7 +8,7 @@ use mathlib.Core.Option.{Option, none, some}
 use native.Mathlib.Omega.{arith}
 use lib.ListN.{length, getD, drop, List·getD-eq-default}
 use Rattle.lists.specs.Lists.{isEmpty}
-use Rattle.lists.proofs.Default.{getD-default}
+use Rattle.lists.proofs.Places.{getD-default}
 use Rattle.records.specs.Sizes.{fileSlots, linkSlots}
 use Rattle.records.specs.Slots.{root, zeroFile, zeroLink, isDirectory}
 use Rattle.tables.specs.Tables.{fileAt, linkAt}

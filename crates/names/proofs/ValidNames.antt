@@ -9,7 +9,7 @@ use lib.Dec.{eqb, leb}
 use lib.ListN.{length, getD}
 use borrow.Author.Tests.{le-leb, lt-leb, ne-eqb, eqb-true, eqb-false}
 use Rattle.lists.specs.Lists.{all, any, isEmpty, oneOf, same}
-use Rattle.lists.proofs.Scan.{same-lengths}
+use Rattle.lists.proofs.Same.{same-lengths}
 use Rattle.units.specs.Units.{dot}
 use Rattle.names.specs.Names.{validUnit, validFileName, validStreamName}
 

@@ -10,7 +10,8 @@ use lib.ListN.{length, getD, take, drop}
 use lib.Seq.{slice, slice-empty}
 use borrow.Author.Tests.{eqb-true, ltb-true, ltb-false}
 use Rattle.lists.specs.Lists.{all, isEmpty}
-use Rattle.lists.proofs.Tests.{same-is}
+use Rattle.lists.proofs.Tests.{and-left, and-right}
+use Rattle.lists.proofs.Same.{same-is}
 use Rattle.units.specs.Units.{colon, dataType, upper, folded, equalUnits}
 use Rattle.components.specs.Components.{split}
 use Rattle.components.specs.Positions.{leading, noSign, placeOf}
@@ -33,10 +34,6 @@ ends-last sign (u ∷ v ∷ us) ne =
     let e : suc (suc (length us)) - 1 ≡ suc (suc (length us) - 1) = omega arith in
     rw e (ends-last sign (v ∷ us) (λ z. omega arith))
 
-and-true : (a b : Bool) → (a && b) ≡ true → (a ≡ true) × (b ≡ true)
-and-true true b h = (refl, h)
-and-true false b h = (h, cc)
-
 -- a type: `$DATA` has no colon, so more colons are none
 
 no-colon : (t : List ℕ) → all (noSign colon) (map (folded true) t) ≡ true → length t ≤ leading (noSign colon) t
@@ -45,11 +42,11 @@ no-colon [] h = omega arith
 no-colon (u ∷ us) h = go (eqb u colon) refl (no-colon us)
   where
     rest : all (noSign colon) (map (folded true) us) ≡ true
-    rest = and-true (noSign colon (folded true u)) (all (noSign colon) (map (folded true) us)) h .1
+    rest = and-right (noSign colon (folded true u)) (all (noSign colon) (map (folded true) us)) h
 
     go : (b : Bool) → eqb u colon ≡ b → (all (noSign colon) (map (folded true) us) ≡ true → length us ≤ leading (noSign colon) us) → suc (length us) ≤ cond (not b) (suc (leading (noSign colon) us)) 0
     go true e tail =
-        let never : false ≡ true = rw (eqb-true u colon e) at (and-true (noSign colon (folded true u)) (all (noSign colon) (map (folded true) us)) h .0) in
+        let never : false ≡ true = rw (eqb-true u colon e) at (and-left (noSign colon (folded true u)) (all (noSign colon) (map (folded true) us)) h) in
         absurd (false≢true never)
     go false e tail = omega (arith, tail rest)
 

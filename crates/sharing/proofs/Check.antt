@@ -1,13 +1,14 @@
 -- The share check from the counts of a list of opens is the comparison of the new open with each of them.
 use Prim.Native.Nat.{ℕ}
 use mathlib.Core.Path.{_≡_, refl, sym, _∙_, ap, ap₂}
-use mathlib.Core.Bool.{Bool, true, false, not, _&&_, _||_}
+use mathlib.Core.Bool.{Bool, true, false, not, _&&_, _||_, and-comm, and-false, or-comm}
 use mathlib.Core.List.{List}
 use lib.Dec.{eqb, ltb}
 use Rattle.lists.specs.Lists.{any, keep, Permutation}
 use Rattle.lists.proofs.Tests.{and-left}
-use Rattle.lists.proofs.Keep.{any-same, any-keep}
-use Rattle.lists.proofs.Counting.{count-some, count-fewer, any-or, any-and}
+use Rattle.lists.proofs.Any.{any-same, any-or, any-and}
+use Rattle.lists.proofs.Count.{count-some, count-fewer}
+use Rattle.lists.proofs.Keep.{any-keep}
 use Rattle.lists.proofs.Permutations.{perm-any}
 use Rattle.records.specs.Terms.{Terms, termsOf}
 use Rattle.records.specs.declared.StreamNo.{StreamNo}
@@ -40,24 +41,10 @@ module _ (t : Terms) where
   conflict-over o = go (counted (o .granted)) (counted (t .granted))
     where
       none : (a b : Bool) → false ≡ ((a && false) || (b && false))
-      none true true = refl
-      none true false = refl
-      none false true = refl
-      none false false = refl
+      none a b = rw (and-false a, and-false b)
 
       turned : (a b c d : Bool) → ((a && b) || (c && d)) ≡ ((c && d) || (b && a))
-      turned true true true true = refl
-      turned true true true false = refl
-      turned true true false d = refl
-      turned true false true true = refl
-      turned true false true false = refl
-      turned true false false d = refl
-      turned false true true true = refl
-      turned false true true false = refl
-      turned false true false d = refl
-      turned false false true true = refl
-      turned false false true false = refl
-      turned false false false d = refl
+      turned a b c d = or-comm (a && b) (c && d) ∙ ap (λ (x : Bool). (c && d) || x) (and-comm a b)
 
       go : (c g : Bool)
           → ((c && g)

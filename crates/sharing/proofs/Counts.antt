@@ -5,10 +5,11 @@ use mathlib.Core.Bool.{Bool, true, false, cond}
 use mathlib.Core.List.{List, _∷_}
 use native.Mathlib.Omega.{arith}
 use lib.ListN.{length}
-use Rattle.lists.specs.Lists.{count, keep, Permutation}
-use Rattle.lists.proofs.Keep.{keep-yes, keep-no, length-keep}
-use Rattle.lists.proofs.Counting.{count-add, count-bound}
+use Rattle.lists.specs.Lists.{any, count, keep, Permutation}
+use Rattle.lists.proofs.Count.{count-add, count-bound}
+use Rattle.lists.proofs.Keep.{keep-yes, keep-no, keep-none, length-keep}
 use Rattle.lists.proofs.Permutations.{perm-keep, perm-count}
+use Rattle.records.specs.Slots.{zeroCounts}
 use Rattle.records.specs.declared.StreamNo.{StreamNo}
 use Rattle.records.specs.declared.Open.{Open}
 use Rattle.records.specs.declared.ShareCounts.{ShareCounts}
@@ -97,6 +98,11 @@ counts-cons s o os e = ap countsOfAll (keep-yes (onStream s) o os e) ∙ all-cou
 pub counts-skip : (s : StreamNo) (o : Open) (os : List Open) → onStream s o ≡ false → countsOf s (o ∷ os) ≡ countsOf s os
 unfolding countsOf
 counts-skip s o os e = ap countsOfAll (keep-no (onStream s) o os e)
+
+-- no open on the stream
+pub counts-none : (s : StreamNo) (os : List Open) → any (onStream s) os ≡ false → countsOf s os ≡ zeroCounts
+unfolding countsOf countsOfAll count
+counts-none s os h = ap countsOfAll (keep-none (onStream s) os h)
 
 -- one open less: what was added goes
 pub added-removed : (o : Open) (c : ShareCounts) → withoutOpen o (withOpen o c) ≡ c

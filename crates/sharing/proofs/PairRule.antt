@@ -2,7 +2,7 @@
 -- with none.
 use Prim.Native.Nat.{ℕ}
 use mathlib.Core.Path.{_≡_, refl, ap₂}
-use mathlib.Core.Bool.{Bool, true, false, not, _&&_, _||_}
+use mathlib.Core.Bool.{Bool, true, false, not, _&&_, _||_, and-comm, or-comm}
 use Rattle.lists.proofs.Tests.{or-left, or-right}
 use Rattle.records.specs.Terms.{Terms, termsOf}
 use Rattle.records.specs.declared.Open.{Open}
@@ -24,24 +24,12 @@ counted-holder reading g h = or-left (holds deleting g) (or-left (holds writing 
 counted-holder writing g h = or-left (holds deleting g) (or-right (holds reading g) h)
 counted-holder deleting g h = or-right (holds reading g || holds writing g) h
 
-or-swap : (a b : Bool) → (a || b) ≡ (b || a)
-or-swap true true = refl
-or-swap true false = refl
-or-swap false true = refl
-or-swap false false = refl
-
-and-swap : (a b : Bool) → (a && b) ≡ (b && a)
-and-swap true true = refl
-and-swap true false = refl
-and-swap false true = refl
-and-swap false false = refl
-
 pub conflict-sym : (t t′ : Terms) → conflict t t′ ≡ conflict t′ t
 unfolding conflict
 conflict-sym t t′ =
-    ap₂ (λ (a b : Bool). a && b) (and-swap (counted (t .granted)) (counted (t′ .granted)))
+    ap₂ (λ (a b : Bool). a && b) (and-comm (counted (t .granted)) (counted (t′ .granted)))
     (any-kind-same _ _
-    (λ k. or-swap (holds k (t .granted) && not (shares k (t′ .share))) (holds k (t′ .granted) && not (shares k (t .share)))))
+    (λ k. or-comm (holds k (t .granted) && not (shares k (t′ .share))) (holds k (t′ .granted) && not (shares k (t .share)))))
 
 pub conflicting-sym : (o o′ : Open) → conflicting o o′ ≡ conflicting o′ o
 unfolding conflicting

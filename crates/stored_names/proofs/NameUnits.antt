@@ -9,7 +9,8 @@ use lib.Dec.{eqb}
 use lib.ListN.{length, getD, drop, drop-of-length-le}
 use borrow.Author.Tests.{eqb-true, eqb-false}
 use Rattle.lists.specs.Lists.{same}
-use Rattle.lists.proofs.Scan.{drop-next, same-differs, same-tail}
+use Rattle.lists.proofs.Places.{drop-next}
+use Rattle.lists.proofs.Same.{same-differs, same-tail}
 use Rattle.units.specs.Units.{folded, equalUnits}
 use Rattle.units.proofs.Compare.{equal-tail, equal-differs}
 use Rattle.stored_names.specs.StoredNames.{units}

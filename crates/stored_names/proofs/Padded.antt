@@ -8,7 +8,8 @@ use native.Mathlib.Omega.{arith}
 use lib.Dec.{leb}
 use lib.ListN.{length, getD, replicate}
 use Rattle.lists.specs.Lists.{all, isEmpty, same, padded}
-use Rattle.lists.proofs.Tests.{and-right, same-self}
+use Rattle.lists.proofs.Tests.{and-right}
+use Rattle.lists.proofs.Same.{same-self}
 use Rattle.units.specs.Units.{dot}
 use Rattle.names.specs.Names.{validUnit, validFileName, validStreamName}
 use Rattle.stored_names.specs.StoredNames.{units, wellStored}

@@ -5,8 +5,8 @@ use mathlib.Core.Bool.{Bool, true, false}
 use mathlib.Core.List.{List, _∷_, map}
 use lib.ListN.{length, getD, drop, drop-of-length-le, length-map}
 use Rattle.lists.specs.Lists.{same}
-use Rattle.lists.proofs.Tests.{same-self}
-use Rattle.lists.proofs.Scan.{drop-next, same-tail, same-differs, same-lengths}
+use Rattle.lists.proofs.Places.{drop-next}
+use Rattle.lists.proofs.Same.{same-self, same-tail, same-differs, same-lengths}
 use Rattle.units.specs.Units.{folded, equalUnits}
 
 module _ (fold : Bool) where

@@ -1,22 +1,24 @@
 -- `audit_counts::counts_of_streams` meets its contract: at the loop's head the counts are those of the rows from
 -- i on.
-use Prim.Native.Nat.{_≤_}
-use mathlib.Core.Path.{_≡_, refl, sym, _∙_, subst}
+use Prim.Native.Nat.{ℕ, _-_, _≤_}
+use mathlib.Core.Path.{_≡_, refl, sym, _∙_, ap}
 use mathlib.Core.Logic.{⊎-elim, inl, inr}
 use native.Mathlib.Omega.{arith}
-use lib.ListN.{length, length-set}
+use lib.ListN.{length, getD, drop, length-set, length-drop}
 use borrow.Author.Needs.{needs}
 use borrow.Author.Tests.{ltb-true, ltb-false}
 use Rattle.records.specs.Sizes.{streamSlots, openSlots}
-use Rattle.records.specs.Slots.{zeroCounts, zeroOpen}
+use Rattle.lists.proofs.Keyed.{Noted, back-skip, back-set}
+use Rattle.records.specs.Slots.{zeroCounts, zeroOpen, openUsed}
 use Rattle.records.proofs.Lengths.{rows-length}
-use Rattle.audit_counts.proofs.CountsScan.{Counted, none-counted, all-counted, row-adds, row-adds-none}
+use Rattle.sharing.specs.Saturating.{withOpenUpTo}
+use Rattle.audit_counts.proofs.CountsScan.{streamNo, countsOn, none-counted, counts-own, counts-other}
 use Rattle.audit_counts.proofs.counts_of_streams.Statement.{statement}
 use Rattle.audit_counts.proofs.counts_of_streams.Tie as tie
 
 abbrev Inv-loop : tie.InvT-loop
 Inv-loop t counts₀ i₀ counts i =
-    (i ≤ openSlots) × (length counts ≡ streamSlots) × Counted (t .rows) streamSlots counts i
+    (i ≤ openSlots) × (length counts ≡ streamSlots) × Noted zeroCounts streamSlots counts (λ n. countsOn n (drop i (t .rows)))
 
 abbrev μ-loop : tie.MeasureT-loop
 μ-loop t counts₀ i₀ counts i = i
@@ -24,7 +26,7 @@ abbrev μ-loop : tie.MeasureT-loop
 loop-holds : tie.Need-loop-holds Inv-loop μ-loop
 loop-holds c =
     let size = rows-length (c .args .t1) _ (c .good .0) in
-    (search needs, refl, none-counted (c .args .t1 .rows) streamSlots openSlots (omega arith))
+    (search needs, refl, none-counted streamSlots (c .args .t1 .rows) openSlots (omega arith))
 
 sub-i : tie.Need-sub-i Inv-loop μ-loop
 sub-i c = search needs
@@ -65,12 +67,17 @@ loop-again c =
     let a = l .before in
     let rows = a .args .t1 .rows in
     let size = rows-length (a .args .t1) _ (a .good .0) in
-    let used = c .before .before .before in (
+    let used = c .before .before .before in
+    let o = getD rows (l .loop .i - 1) zeroOpen in
+    let b = ltb-true (streamNo o) streamSlots (c .before .before .if2 .taken) in (
       omega arith,
       length-set (l .loop .counts) _ _ ∙ l .loop .inv .1,
-      row-adds rows streamSlots (l .loop .counts) (l .loop .i) zeroOpen (omega arith) (omega arith) (l .loop .inv .2) 65535 (omega arith)
-          (sym (used .before .open-used .ensures) ∙ used .if1 .taken) (l .loop .inv .1)
-          (ltb-true _ _ (c .before .before .if2 .taken)) zeroCounts (c .with-open .ensures),
+      back-set streamNo openUsed countsOn counts-other rows (l .loop .i) zeroOpen (omega arith) (omega arith) zeroCounts streamSlots
+          (l .loop .counts) (l .loop .inv .2) (l .loop .inv .1) b _
+          (c .with-open .ensures
+          ∙ ap (withOpenUpTo 65535 o) (l .loop .inv .2 (streamNo o) b)
+          ∙ sym (counts-own 65535 o (drop (l .loop .i) rows) (sym (used .before .open-used .ensures) ∙ used .if1 .taken)
+          (omega (arith, length-drop (l .loop .i) rows)))),
     )
 
 loop-less-2 : tie.Need-loop-less-2 Inv-loop μ-loop
@@ -84,7 +91,8 @@ loop-again-2 c =
     let size = rows-length (a .args .t1) _ (a .good .0) in (
       omega arith,
       l .loop .inv .1,
-      row-adds-none rows streamSlots (l .loop .counts) (l .loop .i) zeroOpen (omega arith) (omega arith) (l .loop .inv .2)
+      back-skip streamNo openUsed countsOn counts-other rows (l .loop .i) zeroOpen (omega arith) (omega arith) zeroCounts streamSlots
+          (l .loop .counts) (l .loop .inv .2)
           (⊎-elim (λ w. inr (ltb-false _ _ (w .1 .left))) (λ w. inl (sym (c .before .open-used .ensures) ∙ w .left)) (c .if1 .came)),
     )
 
@@ -92,7 +100,7 @@ returns : tie.Need-returns Inv-loop μ-loop
 returns c =
     let l = c .before in
     let z : l .loop .i ≡ 0 = omega arith in
-    all-counted (l .before .args .t1 .rows) streamSlots (l .loop .counts) (subst (Counted (l .before .args .t1 .rows) streamSlots (l .loop .counts)) z (l .loop .inv .2))
+    λ n b. l .loop .inv .2 n b ∙ ap (λ (m : ℕ). countsOn n (drop m (l .before .args .t1 .rows))) z
 
 pub counts-of-streams-spec : {M : Type 1} → statement M
 counts-of-streams-spec =

@@ -6,7 +6,7 @@ use lib.ListN.{drop}
 use borrow.Author.Needs.{needs}
 use borrow.Author.Tests.{not-true, not-false}
 use Rattle.lists.specs.Lists.{allFrom}
-use Rattle.lists.proofs.Passes.{numbered-stops, numbered-next, numbered-end}
+use Rattle.lists.proofs.All.{numbered-stops, numbered-next, numbered-end}
 use Rattle.records.specs.Sizes.{streamSlots}
 use Rattle.records.proofs.Lengths.{streams-length}
 use Rattle.records.proofs.Elements.{arraylessStream}

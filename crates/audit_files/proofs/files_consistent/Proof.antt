@@ -8,9 +8,8 @@ use lib.ListN.{drop}
 use borrow.Author.Needs.{needs}
 use borrow.Author.Tests.{eq-eqb, not-true, not-false}
 use Rattle.lists.specs.Lists.{all}
-use Rattle.lists.proofs.Default.{getD-default}
-use Rattle.lists.proofs.Scan.{all-end}
-use Rattle.lists.proofs.Passes.{pass-stops, pass-next}
+use Rattle.lists.proofs.Places.{getD-default}
+use Rattle.lists.proofs.All.{all-end, all-fails, all-next}
 use Rattle.records.specs.Sizes.{fileSlots}
 use Rattle.records.specs.Slots.{zeroFile, isDirectory, fileUsed}
 use Rattle.tables.specs.Tables.{fileAt}
@@ -76,7 +75,8 @@ returns-2 c =
     let h = files-length (a .args .t1) _ (a .good .0) in
     sym
     (l .loop .inv
-    ∙ pass-stops fileTest (a .args .t1 .files) (l .loop .i) arraylessFile (omega arith) (s .slot-consistent .ensures) (c .if2 .taken))
+    ∙ all-fails fileTest (a .args .t1 .files) (l .loop .i) arraylessFile (omega arith)
+    (sym (s .slot-consistent .ensures) ∙ not-true _ (c .if2 .taken)))
 
 add-i : tie.Need-add-i Inv-loop μ-loop
 add-i c = search needs
@@ -91,7 +91,8 @@ loop-again c =
     let a = l .before .before .before .before in
     let h = files-length (a .args .t1) _ (a .good .0) in
     l .loop .inv
-    ∙ pass-next fileTest (a .args .t1 .files) (l .loop .i) arraylessFile (omega arith) (s .slot-consistent .ensures) (c .if2 .left)
+    ∙ all-next fileTest (a .args .t1 .files) (l .loop .i) arraylessFile (omega arith)
+    (sym (s .slot-consistent .ensures) ∙ not-false _ (c .if2 .left))
 
 returns-3 : tie.Need-returns-3 Inv-loop μ-loop
 returns-3 c =

@@ -6,11 +6,10 @@ use mathlib.Core.Bool.{Bool}
 use native.Mathlib.Omega.{arith}
 use lib.ListN.{length, drop}
 use borrow.Author.Needs.{needs}
-use borrow.Author.Tests.{eq-eqb}
+use borrow.Author.Tests.{eq-eqb, not-true, not-false}
 use Rattle.bits.specs.Bits.{within}
 use Rattle.lists.specs.Lists.{all}
-use Rattle.lists.proofs.Scan.{all-end}
-use Rattle.lists.proofs.Passes.{pass-stops, pass-next}
+use Rattle.lists.proofs.All.{all-end, all-fails, all-next}
 use Rattle.records.specs.Constants.{allAccess}
 use Rattle.consistency.specs.Relations.{validMasks}
 use Rattle.audit_files.proofs.valid_masks.Statement.{statement}
@@ -44,7 +43,8 @@ returns : tie.Need-returns Inv-loop μ-loop
 returns c =
     let w = c .before in
     let l = w .before .before in
-    sym (l .loop .inv ∙ pass-stops valid (l .before .args .t1) (l .loop .account) 0 (omega arith) (w .within .ensures) (c .if1 .taken))
+    sym (l .loop .inv ∙ all-fails valid (l .before .args .t1) (l .loop .account) 0 (omega arith)
+    (sym (w .within .ensures) ∙ not-true _ (c .if1 .taken)))
 
 add-account : tie.Need-add-account Inv-loop μ-loop
 add-account c = search needs
@@ -56,7 +56,8 @@ loop-again : tie.Need-loop-again Inv-loop μ-loop
 loop-again c =
     let w = c .before in
     let l = w .before .before in
-    l .loop .inv ∙ pass-next valid (l .before .args .t1) (l .loop .account) 0 (omega arith) (w .within .ensures) (c .if1 .left)
+    l .loop .inv ∙ all-next valid (l .before .args .t1) (l .loop .account) 0 (omega arith)
+    (sym (w .within .ensures) ∙ not-false _ (c .if1 .left))
 
 returns-2 : tie.Need-returns-2 Inv-loop μ-loop
 returns-2 c =

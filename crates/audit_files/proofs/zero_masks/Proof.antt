@@ -6,7 +6,7 @@ use native.Mathlib.Omega.{arith}
 use lib.ListN.{drop, replicate, getD-replicate}
 use borrow.Author.Needs.{needs}
 use Rattle.lists.specs.Lists.{same}
-use Rattle.lists.proofs.Scan.{same-next, same-stops, same-end}
+use Rattle.lists.proofs.Same.{same-next, same-stops, same-end}
 use Rattle.audit_files.proofs.zero_masks.Statement.{statement}
 use Rattle.audit_files.proofs.zero_masks.Tie as tie
 

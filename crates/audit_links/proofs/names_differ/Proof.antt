@@ -2,15 +2,18 @@
 -- say; and, within, what those of the link at i from j on and those after i say.
 use Prim.Native.Nat.{_+_, _-_}
 use mathlib.Core.Path.{_≡_, sym, ap, _∙_}
-use mathlib.Core.Bool.{Bool, _&&_}
+use mathlib.Core.Bool.{Bool, not, _&&_, _||_}
 use mathlib.Core.Logic.{⊎-elim}
 use native.Mathlib.Omega.{arith}
 use lib.ListN.{getD, drop}
 use borrow.Author.Needs.{needs}
 use Rattle.lists.specs.Lists.{all, keep, pairs}
-use Rattle.lists.proofs.Passes.{pairTest, pairs-kept, pairs-passed, pairs-end, pass-stops, pass-next}
-use Rattle.lists.proofs.Scan.{all-end}
+use borrow.Author.Tests.{not-true, not-false}
+use Rattle.lists.proofs.All.{all-fails, all-next, all-end}
+use Rattle.lists.proofs.Keep.{all-keep, kept-past}
+use Rattle.lists.proofs.Pairs.{pairs-kept, pairs-kept-end}
 use Rattle.records.specs.Slots.{linkUsed}
+use Rattle.records.specs.declared.Link.{Link}
 use Rattle.records.specs.declared.Volume.{Volume}
 use Rattle.records.specs.Sizes.{linkSlots}
 use Rattle.records.proofs.Lengths.{links-length}
@@ -23,10 +26,14 @@ use Rattle.audit_links.proofs.names_differ.Tie as tie
 abbrev pairsOf : Volume → Bool
 pairsOf v = pairs linkNamesDiffer (keep linkUsed (v .links))
 
+-- what the inner loop asks of a link
+abbrev differs : Link → Link → Bool
+differs l m = not (linkUsed m) || linkNamesDiffer l m
+
 abbrev Inv-loop2 : tie.InvT-loop2
 Inv-loop2 v i l j₀ j =
     pairsOf v
-    ≡ (all (pairTest linkUsed linkNamesDiffer l) (drop j (v .links))
+    ≡ (all (differs l) (drop j (v .links))
     && pairs linkNamesDiffer (keep linkUsed (drop (i + 1) (v .links))))
 
 abbrev μ-loop2 : tie.MeasureT-loop2
@@ -58,10 +65,12 @@ loop2-holds c =
     let u = c .before in
     let l = u .before .before .before in
     let a = l .before in
+    let ls = a .args .t1 .links in
     let h = links-length (a .args .t1) _ (a .good .0) in
     l .loop .inv
-    ∙ pairs-kept linkUsed linkNamesDiffer (a .args .t1 .links) (l .loop .i) arraylessLink (omega arith)
-    (sym (u .link-used .ensures) ∙ c .if1 .taken)
+    ∙ pairs-kept ls (l .loop .i) arraylessLink (omega arith) linkUsed linkNamesDiffer (sym (u .link-used .ensures) ∙ c .if1 .taken)
+    ∙ ap (λ (b : Bool). b && pairs linkNamesDiffer (keep linkUsed (drop (l .loop .i + 1) ls)))
+    (all-keep linkUsed (linkNamesDiffer (getD ls (l .loop .i) arraylessLink)) (drop (l .loop .i + 1) ls))
 
 mul-m : tie.Need-mul-m Inv-loop2 μ-loop2 Inv-loop μ-loop
 mul-m c = search needs
@@ -83,8 +92,8 @@ returns c =
     sym
     (k .loop2 .inv
     ∙ ap (λ (b : Bool). b && pairs linkNamesDiffer (keep linkUsed (drop (l .loop .i + 1) ls)))
-    (pass-stops (pairTest linkUsed linkNamesDiffer (getD ls (l .loop .i) arraylessLink)) ls (k .loop2 .j) arraylessLink (omega arith)
-    (q .differ .ensures) (c .if2 .taken)))
+    (all-fails (differs (getD ls (l .loop .i) arraylessLink)) ls (k .loop2 .j) arraylessLink (omega arith)
+    (sym (q .differ .ensures) ∙ not-true _ (c .if2 .taken))))
 
 add-j-2 : tie.Need-add-j-2 Inv-loop2 μ-loop2 Inv-loop μ-loop
 add-j-2 c = search needs
@@ -102,8 +111,8 @@ loop2-again c =
     let h = links-length (a .args .t1) _ (a .good .0) in
     k .loop2 .inv
     ∙ ap (λ (b : Bool). b && pairs linkNamesDiffer (keep linkUsed (drop (l .loop .i + 1) ls)))
-    (pass-next (pairTest linkUsed linkNamesDiffer (getD ls (l .loop .i) arraylessLink)) ls (k .loop2 .j) arraylessLink (omega arith)
-    (q .differ .ensures) (c .if2 .left))
+    (all-next (differs (getD ls (l .loop .i) arraylessLink)) ls (k .loop2 .j) arraylessLink (omega arith)
+    (sym (q .differ .ensures) ∙ not-false _ (c .if2 .left)))
 
 add-i : tie.Need-add-i Inv-loop2 μ-loop2 Inv-loop μ-loop
 add-i c = search needs
@@ -122,11 +131,11 @@ loop-again c =
     (λ w.
     w .1 .inv
     ∙ ap (λ (b : Bool). b && pairs linkNamesDiffer (keep linkUsed (drop (l .loop .i + 1) ls)))
-    (all-end (pairTest linkUsed linkNamesDiffer (getD ls (l .loop .i) arraylessLink)) ls (w .1 .j) (omega (arith, w .2 .left))))
+    (all-end (differs (getD ls (l .loop .i) arraylessLink)) ls (w .1 .j) (omega (arith, w .2 .left))))
     (λ w.
     l .loop .inv
-    ∙ pairs-passed linkUsed linkNamesDiffer ls (l .loop .i) arraylessLink (omega arith)
-    (sym (u .link-used .ensures) ∙ w .left))
+    ∙ ap (pairs linkNamesDiffer)
+    (kept-past ls (l .loop .i) arraylessLink (omega arith) linkUsed (sym (u .link-used .ensures) ∙ w .left)))
     (c .if1 .came)
 
 returns-2 : tie.Need-returns-2 Inv-loop2 μ-loop2 Inv-loop μ-loop
@@ -134,7 +143,7 @@ returns-2 c =
     let l = c .before in
     let a = l .before in
     let h = links-length (a .args .t1) _ (a .good .0) in
-    sym (l .loop .inv ∙ pairs-end linkUsed linkNamesDiffer (a .args .t1 .links) (l .loop .i) (omega arith))
+    sym (l .loop .inv ∙ pairs-kept-end (a .args .t1 .links) (l .loop .i) (omega arith) linkUsed linkNamesDiffer)
 
 pub names-differ-spec : {M : Type 1} → statement M
 names-differ-spec =

@@ -6,8 +6,8 @@ use native.Mathlib.Omega.{arith}
 use lib.ListN.{getD, drop}
 use borrow.Author.Needs.{needs}
 use Rattle.lists.specs.Lists.{all}
-use Rattle.lists.proofs.Scan.{all-end, all-fails}
-use Rattle.lists.proofs.Passes.{pass-stops, pass-next}
+use borrow.Author.Tests.{not-true, not-false}
+use Rattle.lists.proofs.All.{all-end, all-fails, all-next}
 use Rattle.records.specs.Sizes.{linkSlots}
 use Rattle.records.proofs.Lengths.{files-length, links-length}
 use Rattle.records.proofs.Elements.{arraylessFile, arraylessLink}
@@ -87,8 +87,8 @@ returns-3 c =
     let test = slot-is (v .files) x (files-length v _ (a .good .0)) arraylessFile (e .before .if1 .left) (e .if2 .left) in
     sym
     (l .loop .inv
-    ∙ pass-stops (linkTest (v .files)) (v .links) (l .loop .i) arraylessLink (omega arith) (s .slot-consistent .ensures ∙ test)
-    (c .if3 .taken))
+    ∙ all-fails (linkTest (v .files)) (v .links) (l .loop .i) arraylessLink (omega arith)
+    (sym (s .slot-consistent .ensures ∙ test) ∙ not-true _ (c .if3 .taken)))
 
 add-i : tie.Need-add-i Inv-loop μ-loop
 add-i c = search needs
@@ -107,8 +107,8 @@ loop-again c =
     let x = getD (v .links) (l .loop .i) arraylessLink in
     let test = slot-is (v .files) x (files-length v _ (a .good .0)) arraylessFile (e .before .if1 .left) (e .if2 .left) in
     l .loop .inv
-    ∙ pass-next (linkTest (v .files)) (v .links) (l .loop .i) arraylessLink (omega arith) (s .slot-consistent .ensures ∙ test)
-    (c .if3 .left)
+    ∙ all-next (linkTest (v .files)) (v .links) (l .loop .i) arraylessLink (omega arith)
+    (sym (s .slot-consistent .ensures ∙ test) ∙ not-false _ (c .if3 .left))
 
 returns-4 : tie.Need-returns-4 Inv-loop μ-loop
 returns-4 c =

@@ -5,7 +5,7 @@ use native.Mathlib.Omega.{arith}
 use lib.ListN.{drop}
 use borrow.Author.Needs.{needs}
 use borrow.Author.Tests.{eq-eqb, ne-eqb}
-use Rattle.lists.proofs.Scan.{all-fails, all-next, all-end}
+use Rattle.lists.proofs.All.{all-fails, all-next, all-end}
 use Rattle.lists.specs.Lists.{all}
 use Rattle.records.specs.Sizes.{fileNameLimit}
 use Rattle.stored_names.specs.StoredNames.{wellStored}

@@ -8,7 +8,7 @@ use lib.ListN.{getD, drop}
 use borrow.Author.Needs.{needs}
 use borrow.Author.Tests.{not-true, not-false}
 use Rattle.lists.specs.Lists.{all, pairs}
-use Rattle.lists.proofs.Scan.{all-fails, all-next, all-end}
+use Rattle.lists.proofs.All.{all-fails, all-next, all-end}
 use Rattle.records.specs.Sizes.{openSlots}
 use Rattle.records.specs.Slots.{zeroOpen}
 use Rattle.records.specs.Namespace.{namespace}

@@ -9,7 +9,7 @@ use lib.ListN.{length, getD, drop}
 use borrow.Author.Needs.{needs}
 use borrow.Author.Tests.{not-true, not-false}
 use Rattle.lists.specs.Lists.{all, allFrom, keep}
-use Rattle.lists.proofs.Passes.{numbered-stops, numbered-next, numbered-end}
+use Rattle.lists.proofs.All.{numbered-stops, numbered-next, numbered-end}
 use Rattle.records.specs.Slots.{linkUsed}
 use Rattle.records.specs.declared.FileNo.{FileNo}
 use Rattle.records.specs.declared.File.{File}

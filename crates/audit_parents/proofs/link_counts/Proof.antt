@@ -1,28 +1,24 @@
 -- `audit_parents::link_counts` meets its contract. The invariant: the table has the counts of the links from i on.
 use Prim.Native.Nat.{ℕ, _+_, _-_, _≤_}
 use mathlib.Core.Path.{_≡_, refl, sym, ap, _∙_}
-use mathlib.Core.List.{List}
 use mathlib.Core.Logic.{⊎-elim, inl, inr}
 use native.Mathlib.Omega.{arith}
 use lib.ListN.{length, getD, drop, length-set, length-drop, drop-of-length-le, getD-replicate}
 use borrow.Author.Needs.{needs}
 use Rattle.lists.specs.Lists.{count}
-use Rattle.lists.proofs.Counting.{count-bound}
-use Rattle.records.specs.declared.FileNo.{FileNo}
-use Rattle.records.specs.declared.Link.{Link}
+use Rattle.lists.proofs.Count.{count-bound}
+use Rattle.lists.proofs.Keyed.{Noted, back-skip, back-set}
+use Rattle.records.specs.Slots.{linkUsed}
 use Rattle.records.proofs.Lengths.{links-length}
 use Rattle.records.proofs.Elements.{arraylessLink}
 use Rattle.consistency.specs.Relations.{linkTo}
 use Rattle.records.specs.Sizes.{fileSlots, linkSlots}
-use Rattle.audit_parents.proofs.ParentsScan.{Noted, noted-skip, noted-set, count-other, count-more}
+use Rattle.audit_parents.proofs.ParentsScan.{fileOf, linksTo, count-own, count-other}
 use Rattle.audit_parents.proofs.link_counts.Statement.{statement}
 use Rattle.audit_parents.proofs.link_counts.Tie as tie
 
-abbrev linksTo : FileNo → List Link → ℕ
-linksTo f ls = count (linkTo f) ls
-
 abbrev Inv-loop : tie.InvT-loop
-Inv-loop v counts₀ i₀ counts i = (i ≤ linkSlots) × (length counts ≡ fileSlots) × Noted linksTo counts (drop i (v .links))
+Inv-loop v counts₀ i₀ counts i = (i ≤ linkSlots) × (length counts ≡ fileSlots) × Noted 0 fileSlots counts (λ n. linksTo n (drop i (v .links)))
 
 abbrev μ-loop : tie.MeasureT-loop
 μ-loop v counts₀ i₀ counts i = i
@@ -33,9 +29,9 @@ loop-holds c =
     let h = links-length (c .args .t1) _ (c .good .0) in (
       omega arith,
       refl,
-      λ f b.
-          getD-replicate {A = ℕ} fileSlots (f .0) 0 0 b
-          ∙ sym (ap (count (linkTo f)) (drop-of-length-le (c .args .t1 .links) {i = linkSlots} (omega arith))),
+      λ n b.
+          getD-replicate {A = ℕ} fileSlots n 0 0 b
+          ∙ sym (ap (linksTo n) (drop-of-length-le (c .args .t1 .links) {i = linkSlots} (omega arith))),
     )
 
 sub-i : tie.Need-sub-i Inv-loop μ-loop
@@ -69,7 +65,7 @@ add-counts c =
     let x = getD ls (l .loop .i - 1) arraylessLink in
     omega (
       arith,
-      l .loop .inv .2 (x .file) (t .if1 .taken),
+      l .loop .inv .2 (fileOf x) (t .if1 .taken),
       count-bound (linkTo (x .file)) (drop (l .loop .i) ls),
       length-drop (l .loop .i) ls,
     )
@@ -95,9 +91,9 @@ loop-again c =
     let used = sym (c .before .link-used .ensures) ∙ c .if2 .taken in (
       omega arith,
       length-set xs (x .file .0) (getD xs (x .file .0) 0 + 1) ∙ l .loop .inv .1,
-      noted-set linksTo count-other xs ls (l .loop .i) arraylessLink (omega arith) (omega arith) (l .loop .inv .2)
-          (getD xs (x .file .0) 0 + 1) (l .loop .inv .1) (t .if1 .taken)
-          (count-more xs x (drop (l .loop .i) ls) used (t .if1 .taken) (l .loop .inv .2)),
+      back-set fileOf linkUsed linksTo count-other ls (l .loop .i) arraylessLink (omega arith) (omega arith) 0 fileSlots xs
+          (l .loop .inv .2) (l .loop .inv .1) (t .if1 .taken) (getD xs (fileOf x) 0 + 1)
+          (omega (arith, l .loop .inv .2 (fileOf x) (t .if1 .taken), count-own x (drop (l .loop .i) ls) used)),
     )
 
 loop-less-2 : tie.Need-loop-less-2 Inv-loop μ-loop
@@ -111,7 +107,8 @@ loop-again-2 c =
     let h = links-length (a .args .t1) _ (a .good .0) in (
       omega arith,
       l .loop .inv .1,
-      noted-skip linksTo count-other (l .loop .counts) ls (l .loop .i) arraylessLink (omega arith) (omega arith) (l .loop .inv .2)
+      back-skip fileOf linkUsed linksTo count-other ls (l .loop .i) arraylessLink (omega arith) (omega arith) 0 fileSlots
+          (l .loop .counts) (l .loop .inv .2)
           (⊎-elim (λ w. inl (sym (w .1 .ensures) ∙ w .2 .left)) (λ w. inr (w .left)) (c .if1 .came)),
     )
 
@@ -120,7 +117,7 @@ returns c =
     let l = c .before in
     let a = l .before in
     λ f b.
-    l .loop .inv .2 f b
+    l .loop .inv .2 (f .0) b
     ∙ ap (λ (n : ℕ). count (linkTo f) (drop n (a .args .t1 .links))) (let e : l .loop .i ≡ 0 = omega arith in e)
 
 pub link-counts-spec : {M : Type 1} → statement M

@@ -1,26 +1,22 @@
 -- `audit_parents::parents` meets its contract. The invariant: the table has the parents by the links from i on.
 use Prim.Native.Nat.{ℕ, _-_, _≤_}
 use mathlib.Core.Path.{_≡_, sym, ap, _∙_}
-use mathlib.Core.List.{List}
 use mathlib.Core.Logic.{⊎-elim, inl, inr}
 use native.Mathlib.Omega.{arith}
 use lib.ListN.{length, getD, drop, length-set, drop-of-length-le}
 use borrow.Author.Needs.{needs}
-use Rattle.records.specs.declared.FileNo.{FileNo}
-use Rattle.records.specs.declared.Link.{Link}
+use Rattle.lists.proofs.Keyed.{Noted, back-skip, back-set}
+use Rattle.records.specs.Slots.{linkUsed}
 use Rattle.records.proofs.Lengths.{links-length}
 use Rattle.records.proofs.Elements.{arraylessLink}
 use Rattle.consistency.specs.Relations.{parentOf}
 use Rattle.records.specs.Sizes.{fileSlots, linkSlots}
-use Rattle.audit_parents.proofs.ParentsScan.{Noted, noted-skip, noted-set, names-it, parent-here, parent-other}
+use Rattle.audit_parents.proofs.ParentsScan.{fileOf, above, parent-own, parent-other}
 use Rattle.audit_parents.proofs.parents.Statement.{statement}
 use Rattle.audit_parents.proofs.parents.Tie as tie
 
-abbrev above : FileNo → List Link → ℕ
-above f ls = parentOf ls f .0
-
 abbrev Inv-loop : tie.InvT-loop
-Inv-loop v up₀ i₀ up i = (i ≤ linkSlots) × (length up ≡ fileSlots) × Noted above up (drop i (v .links))
+Inv-loop v up₀ i₀ up i = (i ≤ linkSlots) × (length up ≡ fileSlots) × Noted 0 fileSlots up (λ n. above n (drop i (v .links)))
 
 abbrev μ-loop : tie.MeasureT-loop
 μ-loop v up₀ i₀ up i = i
@@ -35,9 +31,9 @@ loop-holds c =
     let h = links-length (a .args .t1) _ (a .good .0) in (
       omega arith,
       omega arith,
-      λ f b.
-          c .own-numbers .ensures (f .0) b
-          ∙ sym (ap (above f) (drop-of-length-le (a .args .t1 .links) {i = linkSlots} (omega arith))),
+      λ n b.
+          c .own-numbers .ensures n b
+          ∙ sym (ap (above n) (drop-of-length-le (a .args .t1 .links) {i = linkSlots} (omega arith))),
     )
 
 sub-i : tie.Need-sub-i Inv-loop μ-loop
@@ -75,9 +71,8 @@ loop-again c =
     let used = sym (c .before .link-used .ensures) ∙ c .if2 .taken in (
       omega arith,
       length-set (l .loop .up) (x .file .0) (x .parent .0) ∙ l .loop .inv .1,
-      noted-set above parent-other (l .loop .up) ls (l .loop .i) arraylessLink (omega arith) (omega arith) (l .loop .inv .2)
-          (x .parent .0) (l .loop .inv .1) (t .if1 .taken)
-          (λ f e. sym (parent-here f x (drop (l .loop .i) ls) (names-it f x used e))),
+      back-set fileOf linkUsed above parent-other ls (l .loop .i) arraylessLink (omega arith) (omega arith) 0 fileSlots (l .loop .up)
+          (l .loop .inv .2) (l .loop .inv .1) (t .if1 .taken) (x .parent .0) (sym (parent-own x (drop (l .loop .i) ls) used)),
     )
 
 loop-less-2 : tie.Need-loop-less-2 Inv-loop μ-loop
@@ -91,7 +86,8 @@ loop-again-2 c =
     let h = links-length (a .args .t1) _ (a .good .0) in (
       omega arith,
       l .loop .inv .1,
-      noted-skip above parent-other (l .loop .up) ls (l .loop .i) arraylessLink (omega arith) (omega arith) (l .loop .inv .2)
+      back-skip fileOf linkUsed above parent-other ls (l .loop .i) arraylessLink (omega arith) (omega arith) 0 fileSlots (l .loop .up)
+          (l .loop .inv .2)
           (⊎-elim (λ w. inl (sym (w .1 .ensures) ∙ w .2 .left)) (λ w. inr (w .left)) (c .if1 .came)),
     )
 
@@ -100,8 +96,8 @@ returns c =
     let l = c .before in
     let a = l .before .before in
     λ f b.
-    l .loop .inv .2 f b
-    ∙ ap (λ (n : ℕ). above f (drop n (a .args .t1 .links))) (let e : l .loop .i ≡ 0 = omega arith in e)
+    l .loop .inv .2 (f .0) b
+    ∙ ap (λ (n : ℕ). above (f .0) (drop n (a .args .t1 .links))) (let e : l .loop .i ≡ 0 = omega arith in e)
 
 pub parents-spec : {M : Type 1} → statement M
 parents-spec =

@@ -7,7 +7,7 @@ use lib.ListN.{drop}
 use borrow.Author.Needs.{needs}
 use borrow.Author.Tests.{not-true, not-false}
 use Rattle.lists.specs.Lists.{allFrom, keep}
-use Rattle.lists.proofs.Passes.{numbered-stops, numbered-next, numbered-end}
+use Rattle.lists.proofs.All.{numbered-stops, numbered-next, numbered-end}
 use Rattle.records.specs.Sizes.{fileSlots}
 use Rattle.records.specs.Namespace.{bareUsed, namespace}
 use Rattle.records.proofs.Lengths.{files-length}

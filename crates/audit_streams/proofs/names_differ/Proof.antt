@@ -9,7 +9,8 @@ use lib.ListN.{getD, drop}
 use borrow.Author.Needs.{needs}
 use borrow.Author.Tests.{not-true, not-false}
 use Rattle.lists.specs.Lists.{all, keep, pairs}
-use Rattle.lists.proofs.Sweeps.{kept-past, all-kept-fails, all-kept-next, all-kept-end, pairs-kept, pairs-kept-end}
+use Rattle.lists.proofs.Keep.{kept-past, all-kept-fails, all-kept-next, all-kept-end}
+use Rattle.lists.proofs.Pairs.{pairs-kept, pairs-kept-end}
 use Rattle.records.specs.Sizes.{streamSlots}
 use Rattle.records.specs.Slots.{streamUsed}
 use Rattle.records.specs.Namespace.{bareUsed, namespace}

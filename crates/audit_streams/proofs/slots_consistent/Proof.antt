@@ -7,8 +7,7 @@ use lib.ListN.{getD, drop}
 use borrow.Author.Needs.{needs}
 use borrow.Author.Tests.{not-true, not-false}
 use Rattle.lists.specs.Lists.{all}
-use Rattle.lists.proofs.Scan.{all-fails, all-next, all-end}
-use Rattle.lists.proofs.Sweeps.{all-map}
+use Rattle.lists.proofs.All.{all-fails, all-next, all-end, all-map}
 use Rattle.records.specs.Sizes.{streamSlots}
 use Rattle.records.specs.Namespace.{bare, namespace}
 use Rattle.records.proofs.Lengths.{files-length, streams-length}

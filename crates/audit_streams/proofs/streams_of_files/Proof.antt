@@ -1,28 +1,30 @@
 -- `audit_streams::streams_of_files` meets its contract: with the streams from i on, the counts are
 -- those of all.
-use Prim.Native.Nat.{ℕ, _+_, _-_}
-use mathlib.Core.Path.{sym, _∙_, subst₂}
-use mathlib.Core.List.{List}
+use Prim.Native.Nat.{_+_, _-_}
+use mathlib.Core.Path.{sym, _∙_}
 use mathlib.Core.Logic.{⊎-elim, inl, inr}
 use native.Mathlib.Omega.{arith}
+use lib.ListN.{getD}
 use borrow.Author.Needs.{needs}
 use borrow.Author.Tests.{ltb-true, ltb-false}
 use Rattle.records.specs.Sizes.{fileSlots, streamSlots}
+use Rattle.lists.specs.Lists.{isEmpty}
+use Rattle.stored_names.specs.StoredNames.{units}
 use Rattle.records.specs.Namespace.{namespace}
 use Rattle.records.proofs.Lengths.{streams-length}
 use Rattle.records.proofs.Elements.{arraylessStream}
-use Rattle.audit_streams.proofs.StreamsScan.{Counted, none-counted, stream-adds, stream-skips, every-room, unnamed-room, all-counted}
+use Rattle.audit_streams.proofs.StreamsScan.{fileOf, ofFile, unnamedIn, not-of-file, not-unnamed-in, one-of-file, one-unnamed, at-most-one, Counted, none-counted, stream-adds, stream-skips, room, all-counted, count-of-file, count-unnamed}
 use Rattle.audit_streams.proofs.streams_of_files.Statement.{statement}
 use Rattle.audit_streams.proofs.streams_of_files.Tie as tie
 
 abbrev Inv-loop : tie.InvT-loop
-Inv-loop v all₀ unnamed₀ i₀ all unnamed i = Counted (v .streams) fileSlots all unnamed i
+Inv-loop v all₀ unnamed₀ i₀ all unnamed i = Counted ofFile (v .streams) all i × Counted unnamedIn (v .streams) unnamed i
 
 abbrev μ-loop : tie.MeasureT-loop
 μ-loop v all₀ unnamed₀ i₀ all unnamed i = streamSlots - i
 
 loop-holds : tie.Need-loop-holds Inv-loop μ-loop
-loop-holds c = none-counted (c .args .t1 .streams) fileSlots
+loop-holds c = (none-counted ofFile (c .args .t1 .streams), none-counted unnamedIn (c .args .t1 .streams))
 
 mul-s : tie.Need-mul-s Inv-loop μ-loop
 mul-s c = search needs
@@ -51,9 +53,8 @@ add-all c =
     let a = l .before in
     let ss = a .args .t1 .streams in
     let size = streams-length (a .args .t1) _ (a .good .0) in
-    let room =
-    every-room ss fileSlots (l .loop .all) (l .loop .unnamed) (l .loop .i) (l .loop .inv) arraylessStream
-    (ltb-true _ _ (c .before .if2 .taken)) in
+    let n = fileOf (getD ss (l .loop .i) arraylessStream) in
+    let fits = room ofFile ss (l .loop .all) (l .loop .i) (l .loop .inv .0) n (ltb-true n fileSlots (c .before .if2 .taken)) in
     record { fits = omega arith }
 
 mul-all-2 : tie.Need-mul-all-2 Inv-loop μ-loop
@@ -74,10 +75,11 @@ add-unnamed c =
     let a = l .before in
     let ss = a .args .t1 .streams in
     let size = streams-length (a .args .t1) _ (a .good .0) in
-    let room =
-    unnamed-room ss fileSlots (l .loop .all) (l .loop .unnamed) (l .loop .i) (l .loop .inv) arraylessStream
-    (ltb-true _ _ (c .before .if2 .taken)) (c .one-if-unnamed .ensures) in
-    record { fits = omega arith }
+    let s = getD ss (l .loop .i) arraylessStream in
+    let fits =
+    room unnamedIn ss (l .loop .unnamed) (l .loop .i) (l .loop .inv .1) (fileOf s)
+    (ltb-true (fileOf s) fileSlots (c .before .if2 .taken)) in
+    record { fits = omega (arith, c .one-if-unnamed .ensures, at-most-one (isEmpty (units (s .name)))) }
 
 mul-unnamed-2 : tie.Need-mul-unnamed-2 Inv-loop μ-loop
 mul-unnamed-2 c = search needs
@@ -97,15 +99,25 @@ loop-again c =
     let a = l .before in
     let ss = a .args .t1 .streams in
     let size = streams-length (a .args .t1) _ (a .good .0) in
+    let s = getD ss (l .loop .i) arraylessStream in
+    let used = c .before .stream-used .ensures in
     ⊎-elim
     (λ w.
-    subst₂ (λ (e u : List ℕ). Counted ss fileSlots e u (l .loop .i + 1)) (sym (w .3)) (sym (w .4))
-    (stream-adds ss fileSlots (l .loop .all) (l .loop .unnamed) (l .loop .i) (l .loop .inv) arraylessStream (omega arith)
-    (sym (c .before .stream-used .ensures) ∙ w .0 .taken) (ltb-true _ _ (w .1 .taken)) (w .2 .ensures)))
+    let of = ltb-true (fileOf s) fileSlots (w .1 .taken) in (
+      rw (w .3)
+          (stream-adds ofFile ss (l .loop .all) (l .loop .i) (l .loop .inv .0) not-of-file arraylessStream (omega arith) of 1
+          (one-of-file s (sym used ∙ w .0 .taken))),
+      rw (w .4)
+          (stream-adds unnamedIn ss (l .loop .unnamed) (l .loop .i) (l .loop .inv .1) not-unnamed-in arraylessStream (omega arith) of _
+          (one-unnamed s (sym used ∙ w .0 .taken) (w .2 .ensures))),
+    ))
     (λ w.
-    subst₂ (λ (e u : List ℕ). Counted ss fileSlots e u (l .loop .i + 1)) (sym (w .1)) (sym (w .2))
-    (stream-skips ss fileSlots (l .loop .all) (l .loop .unnamed) (l .loop .i) (l .loop .inv) arraylessStream (omega arith)
-    (⊎-elim (λ x. inr (ltb-false _ _ (x .1 .left))) (λ x. inl (sym (c .before .stream-used .ensures) ∙ x .left)) (w .0 .came))))
+    let passed =
+    ⊎-elim (λ x. inr (ltb-false (fileOf s) fileSlots (x .1 .left))) (λ x. inl (sym used ∙ x .left)) (w .0 .came) in (
+      rw (w .1) (stream-skips ofFile ss (l .loop .all) (l .loop .i) (l .loop .inv .0) not-of-file arraylessStream (omega arith) passed),
+      rw (w .2)
+          (stream-skips unnamedIn ss (l .loop .unnamed) (l .loop .i) (l .loop .inv .1) not-unnamed-in arraylessStream (omega arith) passed),
+    ))
     (c .if1 .came)
 
 returns : tie.Need-returns Inv-loop μ-loop
@@ -115,7 +127,10 @@ returns c =
     let a = l .before in
     let ss = a .args .t1 .streams in
     let size = streams-length (a .args .t1) _ (a .good .0) in
-    all-counted ss fileSlots (l .loop .all) (l .loop .unnamed) (l .loop .i) (l .loop .inv) (omega arith)
+    λ n b. (
+      all-counted ofFile ss (l .loop .all) (l .loop .i) (l .loop .inv .0) (omega arith) n b ∙ count-of-file n ss,
+      all-counted unnamedIn ss (l .loop .unnamed) (l .loop .i) (l .loop .inv .1) (omega arith) n b ∙ count-unnamed n ss,
+    )
 
 pub streams-of-files-spec : {M : Type 1} → statement M
 streams-of-files-spec =

@@ -1,6 +1,6 @@
 -- `free_slots::free_stream` meets its contract. The invariant: what is sought is what the rest of the table gives.
 use Prim.Native.Nat.{_-_}
-use mathlib.Core.Path.{_≡_, refl, sym, _∙_}
+use mathlib.Core.Path.{_≡_, refl, sym, _∙_, ap}
 use native.Mathlib.Omega.{arith}
 use borrow.Author.Needs.{needs}
 use Rattle.lists.specs.Lists.{firstAfter}
@@ -8,12 +8,13 @@ use Rattle.records.specs.Sizes.{streamSlots}
 use Rattle.records.specs.Slots.{streamUsed}
 use Rattle.free_slots.specs.Free.{streamSlot, freeStreamSlot}
 use Rattle.records.proofs.Lengths.{streams-length}
-use Rattle.lists.proofs.Searches.{freeFrom, free-here, free-next, free-none}
+use mathlib.Core.Bool.{not}
+use Rattle.lists.proofs.First.{answerFrom, answer-here, answer-next, answer-none}
 use Rattle.free_slots.proofs.free_stream.Statement.{statement}
 use Rattle.free_slots.proofs.free_stream.Tie as tie
 
 abbrev Inv-loop : tie.InvT-loop
-Inv-loop from v i₀ i = freeStreamSlot v from ≡ freeFrom streamSlot streamUsed (v .streams) i
+Inv-loop from v i₀ i = freeStreamSlot v from ≡ answerFrom streamSlot (λ x. not (streamUsed x)) (v .streams) i
 
 abbrev μ-loop : tie.MeasureT-loop
 μ-loop from v i₀ i = streamSlots - i
@@ -42,7 +43,8 @@ returns c =
     let h = streams-length (l .before .args .t1) _ (l .before .good .0) in
     sym
     (l .loop .inv
-    ∙ free-here streamSlot streamUsed (l .before .args .t1 .streams) (l .loop .i) _ (omega arith) (u .stream-used .ensures) (c .if1 .taken))
+    ∙ answer-here streamSlot (λ x. not (streamUsed x)) (l .before .args .t1 .streams) (l .loop .i) _ (omega arith)
+    (ap not (u .stream-used .ensures)) (c .if1 .taken))
 
 add-i : tie.Need-add-i Inv-loop μ-loop
 add-i c = search needs
@@ -56,14 +58,16 @@ loop-again c =
     let l = u .before .before .before in
     let h = streams-length (l .before .args .t1) _ (l .before .good .0) in
     l .loop .inv
-    ∙ free-next streamSlot streamUsed (l .before .args .t1 .streams) (l .loop .i) _ (omega arith) (u .stream-used .ensures) (c .if1 .left)
+    ∙ answer-next streamSlot (λ x. not (streamUsed x)) (l .before .args .t1 .streams) (l .loop .i) _ (omega arith)
+    (ap not (u .stream-used .ensures)) (c .if1 .left)
 
 returns-2 : tie.Need-returns-2 Inv-loop μ-loop
 unfolding streamSlot
 returns-2 c =
     let l = c .before in
     let h = streams-length (l .before .args .t1) _ (l .before .good .0) in
-    sym (l .loop .inv ∙ free-none streamSlot streamUsed (l .before .args .t1 .streams) (l .loop .i) (omega arith))
+    sym (l .loop .inv ∙ answer-none streamSlot (λ x. not (streamUsed x)) (l .before .args .t1 .streams) (l .loop .i)
+    (omega arith))
 
 pub free-stream-spec : {M : Type 1} → statement M
 free-stream-spec =

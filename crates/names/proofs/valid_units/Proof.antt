@@ -5,7 +5,7 @@ use native.Mathlib.Omega.{arith}
 use lib.ListN.{length, drop}
 use borrow.Author.Needs.{needs}
 use borrow.Author.Tests.{not-true, not-false}
-use Rattle.lists.proofs.Scan.{all-fails, all-next, all-end}
+use Rattle.lists.proofs.All.{all-fails, all-next, all-end}
 use Rattle.lists.specs.Lists.{all}
 use Rattle.names.specs.Names.{validUnit, validStreamName}
 use Rattle.names.proofs.ValidNames.{stream-name-long, stream-name-units}

@@ -8,7 +8,7 @@ use lib.Dec.{eqb}
 use lib.ListN.{drop}
 use borrow.Author.Needs.{needs}
 use Rattle.lists.specs.Lists.{any}
-use Rattle.lists.proofs.First.{any-here, any-next, any-none}
+use Rattle.lists.proofs.Any.{any-here, any-next, any-none}
 use Rattle.lists.proofs.Keep.{any-keep}
 use Rattle.records.specs.Sizes.{openSlots}
 use Rattle.records.specs.Slots.{openUsed, zeroOpen}

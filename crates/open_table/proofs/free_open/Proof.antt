@@ -1,6 +1,6 @@
 -- `open_table::free_open` meets its contract. The invariant: what is sought is what the rest of the table gives.
 use Prim.Native.Nat.{_-_}
-use mathlib.Core.Path.{_≡_, refl, sym, _∙_}
+use mathlib.Core.Path.{_≡_, refl, sym, _∙_, ap}
 use native.Mathlib.Omega.{arith}
 use borrow.Author.Needs.{needs}
 use Rattle.lists.specs.Lists.{firstAfter}
@@ -8,12 +8,13 @@ use Rattle.records.specs.Sizes.{openSlots}
 use Rattle.records.specs.Slots.{openUsed}
 use Rattle.open_table.specs.Rows.{openSlot, freeRow}
 use Rattle.records.proofs.Lengths.{rows-length}
-use Rattle.lists.proofs.Searches.{freeFrom, free-here, free-next, free-none}
+use mathlib.Core.Bool.{not}
+use Rattle.lists.proofs.First.{answerFrom, answer-here, answer-next, answer-none}
 use Rattle.open_table.proofs.free_open.Statement.{statement}
 use Rattle.open_table.proofs.free_open.Tie as tie
 
 abbrev Inv-loop : tie.InvT-loop
-Inv-loop t i₀ i = freeRow t ≡ freeFrom openSlot openUsed (t .rows) i
+Inv-loop t i₀ i = freeRow t ≡ answerFrom openSlot (λ x. not (openUsed x)) (t .rows) i
 
 abbrev μ-loop : tie.MeasureT-loop
 μ-loop t i₀ i = openSlots - i
@@ -39,7 +40,8 @@ returns c =
     let h = rows-length (l .before .args .t1) _ (l .before .good .0) in
     sym
     (l .loop .inv
-    ∙ free-here openSlot openUsed (l .before .args .t1 .rows) (l .loop .i) _ (omega arith) (u .open-used .ensures) (c .if1 .taken))
+    ∙ answer-here openSlot (λ x. not (openUsed x)) (l .before .args .t1 .rows) (l .loop .i) _ (omega arith)
+    (ap not (u .open-used .ensures)) (c .if1 .taken))
 
 add-i : tie.Need-add-i Inv-loop μ-loop
 add-i c = search needs
@@ -53,14 +55,16 @@ loop-again c =
     let l = u .before .before .before in
     let h = rows-length (l .before .args .t1) _ (l .before .good .0) in
     l .loop .inv
-    ∙ free-next openSlot openUsed (l .before .args .t1 .rows) (l .loop .i) _ (omega arith) (u .open-used .ensures) (c .if1 .left)
+    ∙ answer-next openSlot (λ x. not (openUsed x)) (l .before .args .t1 .rows) (l .loop .i) _ (omega arith)
+    (ap not (u .open-used .ensures)) (c .if1 .left)
 
 returns-2 : tie.Need-returns-2 Inv-loop μ-loop
 unfolding openSlot
 returns-2 c =
     let l = c .before in
     let h = rows-length (l .before .args .t1) _ (l .before .good .0) in
-    sym (l .loop .inv ∙ free-none openSlot openUsed (l .before .args .t1 .rows) (l .loop .i) (omega arith))
+    sym (l .loop .inv ∙ answer-none openSlot (λ x. not (openUsed x)) (l .before .args .t1 .rows) (l .loop .i)
+    (omega arith))
 
 pub free-open-spec : {M : Type 1} → statement M
 free-open-spec =

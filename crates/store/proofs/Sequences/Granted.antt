@@ -7,8 +7,8 @@ use Rattle.bits.specs.Bits.{has, within, without}
 use Rattle.consistency.proofs.Derived.{file-good}
 use Rattle.consistency.specs.Good.{GoodTerms}
 use Rattle.consistency.specs.Relations.{validMasks}
-use Rattle.lists.proofs.All.{all-slots}
 use Rattle.lists.proofs.Tests.{and-right, or-neither}
+use Rattle.lists.proofs.All.{all-slots}
 use Rattle.lists.specs.Lists.{all}
 use Rattle.records.proofs.Checked.{Ends, ends-bind, goes, stops}
 use Rattle.records.specs.Constants.{allAccess, maximumAllowed, readOnly}

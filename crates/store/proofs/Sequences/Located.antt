@@ -3,14 +3,14 @@
 use Prim.Native.Nat.{suc, zero, ℕ}
 use Rattle.consistency.proofs.Numbered.{directory-used, same-file}
 use Rattle.consistency.specs.Relations.{streamOf, unnamedOf}
-use Rattle.lists.proofs.Find.{first-found}
-use Rattle.lists.proofs.Keep.{any-count, any-same}
 use Rattle.lists.proofs.Tests.{and-left, and-right}
+use Rattle.lists.proofs.Any.{any-same}
+use Rattle.lists.proofs.Count.{any-count}
+use Rattle.lists.proofs.First.{first-found, first-none}
 use Rattle.lists.specs.Lists.{any, first, isEmpty, same}
 use Rattle.lookup.specs.Lookup.{Place, descend, findLink, found, foundRoot, linkMatches, linkNumber, locate, locateLeaf, missing, placeIn, stepInto}
 use Rattle.names.specs.Names.{validFileName}
 use Rattle.paths.proofs.Parsed.{LeafFits}
-use Rattle.lists.proofs.Find.{first-none}
 use Rattle.paths.specs.Paths.{Leaf, Path}
 use Rattle.records.proofs.Checked.{Ends, ends-bind, ends-cond, goes, stops}
 use Rattle.records.specs.Checked.{_>>=_, passed, someOr}
@@ -86,7 +86,7 @@ module _ (ns : Namespace) (fold wd : Bool) (ok : NamespaceConsistent ns) where
             parent = i;
             leafFits = fits;
             nameValid = fits .fileValid named;
-            nameNew = first-none (linkMatches fold dir (leaf .file)) zeroLink (ns .links) e;
+            nameNew = first-none (linkMatches fold dir (leaf .file)) (ns .links) e;
           }
       go (some n) e =
           let l = getD (ns .links) n zeroLink in
@@ -128,7 +128,7 @@ unfolding findStream bareAt streamMatches streamNumber
 searched ns fold f name = go (first (streamMatches fold f name) (ns .streams)) refl
   where
     go : (o : Option ℕ) → first (streamMatches fold f name) (ns .streams) ≡ o → SearchFits ns fold f name (streamNumber o)
-    go none e = first-none (streamMatches fold f name) zeroBare (ns .streams) e
+    go none e = first-none (streamMatches fold f name) (ns .streams) e
     go (some n) e =
         let b = getD (ns .streams) n zeroBare in
         let x = bareUsed b in

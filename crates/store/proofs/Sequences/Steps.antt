@@ -3,8 +3,8 @@ use Prim.Native.Nat.{_<_, suc, ℕ}
 use Rattle.consistency.proofs.Derived.{free-unopened}
 use Rattle.consistency.specs.Consistent.{Consistent, CountsTrue, FilesConsistent, LinksConsistent, NoConflicts, OpensConsistent, StreamsConsistent, openAt}
 use Rattle.consistency.specs.Relations.{live}
-use Rattle.lists.proofs.FirstElement.{perm-apart}
-use Rattle.lists.proofs.PairsPerm.{none-too}
+use Rattle.lists.proofs.Any.{none-too}
+use Rattle.lists.proofs.First.{perm-apart}
 use Rattle.lists.proofs.Permutations.{perm-sym}
 use Rattle.lists.specs.Lists.{Permutation, any, both, find, keep, skip, writes}
 use Rattle.records.proofs.Checked.{Ends, goes, stops}

@@ -6,8 +6,8 @@ use Rattle.consistency.specs.Good.{OpensAgree, handlesDiffer, opensAgree}
 use Rattle.consistency.specs.Relations.{live, validMasks}
 use Rattle.format.proofs.Fresh.{fresh-consistent}
 use Rattle.format.specs.Format.{checkedMasks, format, freshTables, freshVolume, rightLengths}
-use Rattle.lists.proofs.PairsPerm.{perm-pairs}
 use Rattle.lists.proofs.Tests.{and-both, not-is}
+use Rattle.lists.proofs.Permutations.{perm-pairs}
 use Rattle.lists.specs.Lists.{all, any, keep, nil, pairs}
 use Rattle.records.specs.Checked.{_>>_, _>>_, passed, refuseIf}
 use Rattle.records.specs.Numbers.{Reply}

@@ -3,11 +3,11 @@
 use Prim.Native.Nat.{_<_, suc, ℕ}
 use Rattle.consistency.specs.Consistent.{Consistent}
 use Rattle.consistency.specs.Relations.{live}
-use Rattle.lists.proofs.Counting.{count-fewer}
-use Rattle.lists.proofs.FirstElement.{find-keep, perm-find}
+use Rattle.lists.proofs.Count.{count-short}
 use Rattle.lists.proofs.Keep.{length-keep}
+use Rattle.lists.proofs.First.{find-keep, perm-find}
 use Rattle.lists.proofs.Permutations.{perm-any, perm-length}
-use Rattle.lists.specs.Lists.{Permutation, any, count}
+use Rattle.lists.specs.Lists.{Permutation, any}
 use Rattle.open_table.specs.Rows.{anyOnFile}
 use Rattle.records.proofs.Checked.{Ends, went}
 use Rattle.records.specs.Checked.{Checked, _>>=_, _>>=_, _>>_, passed, refuseIf, refused, someOr}
@@ -49,16 +49,6 @@ pub record Related (t : Tables) (m : Model) : Type 0 where
   pub sameNamespace : namespace (t .volume) ≡ m .namespace
   pub nextHandle : t .volume .«next_handle» .0 ≡ suc (m .count)
 
--- some place fails a test exactly when fewer pass than there are
-any-fails : {A : Type 0} (p : A → Bool) (xs : List A) → any (λ x. not (p x)) xs ≡ ltb (count p xs) (length xs)
-unfolding count
-any-fails {A} p xs =
-    sym (count-fewer (λ x. true) p (λ x e. refl) xs) ∙ ap (ltb (count p xs)) (everyone xs)
-  where
-    everyone : (ys : List A) → count (λ y. true) ys ≡ length ys
-    everyone [] = refl
-    everyone (y ∷ ys) = ap suc (everyone ys)
-
 module _ {t : Tables} {m : Model} (related : Related t m) where
   -- the share check from the counts says what comparing with each entry says
   pub conflicts-agree : (s : StreamNo) → s .0 < length (t .volume .streams) → (terms : Terms)
@@ -70,7 +60,7 @@ module _ {t : Tables} {m : Model} (related : Related t m) where
   room-agrees : any (λ o. not (openUsed o)) (t .opens .rows) ≡ ltb (length (m .entries)) openSlots
   unfolding live
   room-agrees =
-      any-fails openUsed (t .opens .rows)
+      count-short openUsed (t .opens .rows)
       ∙ ap₂ ltb (sym (length-keep openUsed (t .opens .rows)) ∙ perm-length (related .opensAreEntries))
       (related .consistentTables .opens .slots .size)
 

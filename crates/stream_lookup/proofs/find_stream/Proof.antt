@@ -7,7 +7,7 @@ use mathlib.Core.Option.{Option}
 use native.Mathlib.Omega.{arith}
 use borrow.Author.Needs.{needs}
 use Rattle.lists.specs.Lists.{first}
-use Rattle.lists.proofs.Lookups.{answerFrom, answer-here, answer-next, answer-none, first-map}
+use Rattle.lists.proofs.First.{answerFrom, answer-here, answer-next, answer-none, first-map}
 use Rattle.records.specs.Namespace.{namespace, bare}
 use Rattle.records.specs.declared.FileNo.{FileNo}
 use Rattle.records.specs.declared.Stream.{Stream}

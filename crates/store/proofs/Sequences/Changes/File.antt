@@ -3,9 +3,8 @@ use Prim.Native.Nat.{_≤_, suc}
 use Rattle.consistency.proofs.Numbered.{directory-file}
 use Rattle.consistency.specs.Consistent.{StreamsConsistent}
 use Rattle.consistency.specs.Relations.{typeAt}
-use Rattle.lists.proofs.PairsPerm.{set-each}
-use Rattle.lists.proofs.Slots.{FreeSlot, refuted, free-stays}
-use Rattle.lists.proofs.Tests.{not-both, not-is}
+use Rattle.lists.proofs.Tests.{refuted, not-both, not-is}
+use Rattle.lists.proofs.Set.{set-each, FreeSlot, free-stays}
 use Rattle.lists.specs.Lists.{all, isEmpty, writes}
 use Rattle.names.specs.Names.{validFileName}
 use Rattle.paths.specs.Paths.{Leaf}

@@ -6,8 +6,8 @@ use mathlib.Core.List.{List}
 use mathlib.Core.Option.{Option, none, some}
 use borrow.Author.Tests.{not-true}
 use Rattle.lists.specs.Lists.{firstAfter}
-use Rattle.lists.proofs.Find.{after-found}
-use Rattle.lists.proofs.Slots.{FreeSlot}
+use Rattle.lists.proofs.First.{after-found}
+use Rattle.lists.proofs.Set.{FreeSlot}
 use Rattle.records.specs.Slots.{zeroFile, zeroLink, fileUsed, linkUsed}
 use Rattle.records.specs.Namespace.{Namespace, zeroBare, bareUsed}
 use Rattle.records.specs.Checked.{passed, _>>=_, someOr}

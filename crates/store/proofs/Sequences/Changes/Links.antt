@@ -8,9 +8,9 @@ use native.Mathlib.Decide.{ℕ-discrete}
 use native.Mathlib.Omega.{arith}
 use lib.ListN.{getD, set}
 use Rattle.lists.specs.Lists.{count}
-use Rattle.lists.proofs.Tests.{not-both}
-use Rattle.lists.proofs.Set.{one, set-cases}
-use Rattle.lists.proofs.Slots.{FreeSlot, refuted, count-none, count-gained, one-before, one-added}
+use Rattle.lists.proofs.Tests.{not-both, one, refuted}
+use Rattle.lists.proofs.Count.{count-none}
+use Rattle.lists.proofs.Set.{set-cases, FreeSlot, count-gained, one-before, one-added}
 use Rattle.records.specs.Slots.{root, zeroLink, fileUsed, linkUsed}
 use Rattle.tables.specs.Tables.{fileAt, linkAt}
 use Rattle.records.specs.declared.FileType.{FileType}
@@ -130,7 +130,7 @@ module _ (fs gs : List File) (ls : List Link) (n : FileNo) (l : LinkNo) (k : Lin
             (q .0, as-before (q .0) f b ∙ q .1)
 
     pub links-with : LinksConsistent gs (set ls (l .0) k)
-    unfolding linkAt one
+    unfolding linkAt
     links-with =
         record {
           slots =

@@ -6,9 +6,9 @@ use mathlib.Core.List.{List, []}
 use mathlib.Core.Logic.{_≢_}
 use native.Mathlib.Decide.{ℕ-discrete}
 use Rattle.lists.specs.Lists.{all, count, isEmpty, padded}
-use Rattle.lists.proofs.Tests.{not-both}
-use Rattle.lists.proofs.Set.{one}
-use Rattle.lists.proofs.Slots.{refuted, count-none, one-before, one-added}
+use Rattle.lists.proofs.Tests.{not-both, one, refuted}
+use Rattle.lists.proofs.Count.{count-none}
+use Rattle.lists.proofs.Set.{one-before, one-added}
 use Rattle.records.specs.Sizes.{streamNameLimit}
 use Rattle.records.specs.Slots.{isUsed, isDirectory, fileUsed}
 use Rattle.tables.specs.Tables.{fileAt}

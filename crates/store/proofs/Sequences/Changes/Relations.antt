@@ -7,7 +7,7 @@ use mathlib.Core.Logic.{_≢_}
 use borrow.Author.Tests.{eq-eqb}
 use Rattle.lists.specs.Lists.{any}
 use Rattle.lists.proofs.Tests.{not-both, and-both}
-use Rattle.lists.proofs.Slots.{any-fails}
+use Rattle.lists.proofs.Any.{any-fails}
 use Rattle.records.specs.Slots.{zeroLink, linkUsed}
 use Rattle.tables.specs.Tables.{linkAt}
 use Rattle.records.specs.Namespace.{BareStream, zeroBare, bareUsed, bareAt}

@@ -6,8 +6,10 @@ use mathlib.Core.List.{List, [], _∷_}
 use native.Mathlib.Omega.{arith}
 use lib.ListN.{set}
 use Rattle.lists.specs.Lists.{isEmpty, writes}
-use Rattle.lists.proofs.Tests.{empty-is}
-use Rattle.lists.proofs.Slots.{FreeSlot, refuted, count-none}
+use Rattle.lists.proofs.Tests.{refuted}
+use Rattle.lists.proofs.Same.{empty-is}
+use Rattle.lists.proofs.Count.{count-none}
+use Rattle.lists.proofs.Set.{FreeSlot}
 use Rattle.records.specs.Slots.{isUsed, isDirectory, fileUsed}
 use Rattle.tables.specs.Tables.{fileAt}
 use Rattle.records.specs.Namespace.{Namespace, BareStream, zeroBare, bareUsed, bareAt}

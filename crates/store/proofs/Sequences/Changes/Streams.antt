@@ -7,9 +7,8 @@ use lib.Dec.{eqb}
 use lib.ListN.{set, length-set}
 use lib.Seq.{getD-set-same}
 use Rattle.lists.specs.Lists.{count, isEmpty}
-use Rattle.lists.proofs.Tests.{not-both}
-use Rattle.lists.proofs.Set.{one}
-use Rattle.lists.proofs.Slots.{FreeSlot, used-stays, count-gained}
+use Rattle.lists.proofs.Tests.{not-both, one}
+use Rattle.lists.proofs.Set.{FreeSlot, used-stays, count-gained}
 use Rattle.records.specs.Slots.{isDirectory, fileUsed}
 use Rattle.tables.specs.Tables.{fileAt}
 use Rattle.records.specs.Namespace.{BareStream, zeroBare, bareUsed, bareAt}

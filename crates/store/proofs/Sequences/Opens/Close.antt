@@ -3,22 +3,20 @@ use Prim.Native.Nat.{_<_, ℕ}
 use Rattle.consistency.proofs.Numbered.{same-handle}
 use Rattle.consistency.specs.Consistent.{OpensConsistent, openAt}
 use Rattle.consistency.specs.Relations.{live}
+use Rattle.lists.proofs.Tests.{refuted, excluded, and-left, and-right, not-is, not-isn't}
 use Rattle.lists.proofs.All.{all-at}
-use Rattle.lists.proofs.Find.{first-found}
-use Rattle.lists.proofs.FirstElement.{apart, find-found}
-use Rattle.lists.proofs.Keep.{keep-no}
+use Rattle.lists.proofs.Any.{none-of}
+use Rattle.lists.proofs.Keep.{keep-no, keep-others}
 use Rattle.lists.proofs.Pairs.{pairs-keep-of}
-use Rattle.lists.proofs.PairsPerm.{keep-others, none-of}
+use Rattle.lists.proofs.First.{first-found, apart, find-found}
 use Rattle.lists.proofs.Permutations.{perm-eq, perm-keep, perm-sym}
-use Rattle.lists.proofs.Slots.{refuted}
-use Rattle.lists.proofs.Tests.{and-fails, and-left, and-right, not-is, not-isn't}
 use Rattle.lists.specs.Lists.{Permutation, all, any, both, find, first, keep, pairs}
 use Rattle.records.specs.Namespace.{BareStream}
 use Rattle.records.specs.Slots.{openUsed, zeroOpen}
 use Rattle.records.specs.declared.Handle.{Handle}
 use Rattle.records.specs.declared.Open.{Open}
 use Rattle.store.specs.Store.{hasHandle, rowsWithoutOpen, stored}
-use borrow.Author.Tests.{eqb-true, not-true}
+use borrow.Author.Tests.{eqb-true}
 use lib.Dec.{eqb}
 use lib.ListN.{length, set}
 use mathlib.Core.Bool.{false, not, true}
@@ -61,8 +59,9 @@ others-kept h o rest {es} p e d =
     none =
         none-of (hasHandle h) zeroOpen rest
         (λ i b.
-        and-fails (hasHandle h o) _ e
-        (not-true _ (all-at (apart (hasHandle h) o) zeroOpen rest (and-left (all (apart (hasHandle h) o) rest) (pairs (apart (hasHandle h)) rest) d) i b)))
+        excluded (hasHandle h o) _
+        (all-at (apart (hasHandle h) o) zeroOpen rest (and-left (all (apart (hasHandle h) o) rest) (pairs (apart (hasHandle h)) rest) d) i b)
+        e)
 
 -- the slot that a close frees
 pub record Struck (h : Handle) (o : Open) (os : List Open) : Type 0 where

@@ -10,8 +10,7 @@ use borrow.Author.Tests.{eq-eqb, ne-eqb}
 use Rattle.bits.proofs.Sets.{has-or}
 use Rattle.lists.specs.Lists.{any}
 use Rattle.lists.proofs.Tests.{not-both, or-neither}
-use Rattle.lists.proofs.All.{any-of}
-use Rattle.lists.proofs.PairsPerm.{none-too, kept-each, none-of}
+use Rattle.lists.proofs.Any.{any-of, none-too, none-of}
 use Rattle.records.specs.Slots.{zeroOpen, openUsed}
 use Rattle.records.specs.Namespace.{BareStream, zeroBare, bareAt}
 use Rattle.records.specs.declared.FileNo.{FileNo}

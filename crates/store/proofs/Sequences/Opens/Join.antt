@@ -2,10 +2,10 @@
 use Prim.Native.Nat.{_<_, _≤_, suc, ℕ}
 use Rattle.consistency.specs.Consistent.{NoConflicts, OpensConsistent, openAt}
 use Rattle.consistency.specs.Relations.{live}
-use Rattle.lists.proofs.Find.{first-found, first-some}
-use Rattle.lists.proofs.PairsPerm.{none-kept-at}
+use Rattle.lists.proofs.Tests.{excluded, not-both, not-is}
+use Rattle.lists.proofs.Keep.{none-kept-at}
+use Rattle.lists.proofs.First.{first-found, first-some}
 use Rattle.lists.proofs.Permutations.{keep-set-in}
-use Rattle.lists.proofs.Tests.{and-fails, not-both, not-is}
 use Rattle.lists.specs.Lists.{Permutation, any, first, firstAfter}
 use Rattle.records.specs.Namespace.{BareStream}
 use Rattle.records.specs.Slots.{openUsed, zeroOpen}
@@ -37,7 +37,7 @@ pub record Taken (o : Open) (os : List Open) : Type 0 where
 pub taken : (o : Open) (os : List Open) → any (λ q. not (openUsed q)) os ≡ true → Taken o os
 unfolding rowsWithOpen stored first firstAfter
 taken o os h =
-    let s = first-some (λ q. not (openUsed q)) zeroOpen os h in
+    let s = first-some (λ q. not (openUsed q)) os h in
     let f = first-found (λ q. not (openUsed q)) zeroOpen os (s .0) (s .1) in
     record {
       slot = s .0;
@@ -51,8 +51,9 @@ pub no-conflict-at : (s : StreamNo) (t : Terms) (os : List Open) → anyConflict
     → (i : ℕ) → openUsed (openAt os i) ≡ true → openAt os i .stream ≡ s → conflict (termsOf (openAt os i)) t ≡ false
 unfolding anyConflict live openUsed onStream
 no-conflict-at s t os h i u e =
-    and-fails (onStream s (openAt os i)) _ (eq-eqb (openAt os i .stream .0) (s .0) (ap (λ (n : StreamNo). n .0) e))
-    (none-kept-at openUsed (λ q. onStream s q && conflict (termsOf q) t) zeroOpen refl os h i u)
+    excluded (onStream s (openAt os i)) _
+    (not-is (none-kept-at openUsed (λ q. onStream s q && conflict (termsOf q) t) zeroOpen refl os h i u))
+    (eq-eqb (openAt os i .stream .0) (s .0) (ap (λ (n : StreamNo). n .0) e))
 
 -- it has a handle
 pub joins-used : {ss : List BareStream} {next : ℕ} {o : Open} → Joins ss next o → 1 ≤ next → openUsed o ≡ true

@@ -7,7 +7,7 @@ use native.Mathlib.Omega.{arith}
 use lib.ListN.{length, length-map, List·getD-map}
 use lib.Seq.{map-set-same}
 use Rattle.lists.specs.Lists.{writes}
-use Rattle.lists.proofs.Writes.{map-writes, map-set}
+use Rattle.lists.proofs.Set.{map-set}
 use Rattle.records.specs.Slots.{zeroStream}
 use Rattle.tables.specs.Tables.{streamAt}
 use Rattle.records.specs.Namespace.{Namespace, BareStream, bareUsed, bareAt, bare, withCounts, namespace}

@@ -1,0 +1,100 @@
+-- How many elements pass.
+use Prim.Native.Nat.{ℕ, suc, _+_, _≤_, _<_}
+use mathlib.Core.Path.{_≡_, refl, sym, _∙_, ap}
+use mathlib.Core.Bool.{Bool, true, false, cond, not, _&&_}
+use mathlib.Core.List.{List, [], _∷_, _++_, map}
+use native.Mathlib.Numerals.{add-one}
+use native.Mathlib.Omega.{arith}
+use lib.Dec.{eqb, ltb}
+use lib.ListN.{length, getD, take}
+use lib.Seq.{take-suc}
+use borrow.Author.Tests.{eqb-true, eqb-false, ne-eqb, lt-ltb, le-ltb, not-false}
+use Rattle.lists.specs.Lists.{any, count}
+use Rattle.lists.proofs.Tests.{by-cases, refuted, one}
+use Rattle.lists.proofs.Any.{none-of}
+
+-- one element more
+module _ {A : Type 0} (p : A → Bool) (x : A) (xs : List A) where
+  pub count-yes : p x ≡ true → count p (x ∷ xs) ≡ suc (count p xs)
+  unfolding count
+  count-yes e = rw e
+
+  pub count-no : p x ≡ false → count p (x ∷ xs) ≡ count p xs
+  unfolding count
+  count-no e = rw e
+
+  pub count-add : count p (x ∷ xs) ≡ count p xs + one (p x)
+  unfolding count
+  count-add = by-cases (p x) (λ e. rw e (omega arith)) (λ e. rw e (omega arith))
+
+module _ {A : Type 0} (p : A → Bool) where
+  count-append : (xs ys : List A) → count p (xs ++ ys) ≡ count p xs + count p ys
+  unfolding count
+  count-append [] ys = omega arith
+  count-append (x ∷ xs) ys = omega (arith, count-append xs ys, count-add p x (xs ++ ys), count-add p x xs)
+
+  -- one step: what was passed at place i is `take i xs`
+  pub count-next : (xs : List A) (i : ℕ) (d : A) → i < length xs
+      → count p (take (i + 1) xs) ≡ count p (take i xs) + one (p (getD xs i d))
+  unfolding count
+  count-next xs i d b =
+      rw (add-one, take-suc xs i d b)
+      (omega (arith, count-append (take i xs) (getD xs i d ∷ []), count-add p (getD xs i d) []))
+
+  pub count-bound : (xs : List A) → count p xs ≤ length xs
+  unfolding count
+  count-bound [] = omega arith
+  count-bound (x ∷ xs) =
+      let h = count-bound xs in by-cases (p x) (λ e. rw e (omega arith)) (λ e. rw e (omega arith))
+
+  -- some element passes exactly where the count isn't zero
+  pub count-some : (xs : List A) → not (eqb (count p xs) 0) ≡ any p xs
+  unfolding count any
+  count-some [] = refl
+  count-some (x ∷ xs) =
+      by-cases (p x) (λ e. rw e (ap not (ne-eqb (suc (count p xs)) 0 (λ z. let w : ⊥ = omega arith in w))))
+      (λ e. rw e (count-some xs))
+
+  pub any-count : (xs : List A) → any p xs ≡ false → count p xs ≡ 0
+  any-count xs h = eqb-true (count p xs) 0 (not-false (eqb (count p xs) 0) (count-some xs ∙ h))
+
+  -- none passes at any place
+  pub count-none : (d : A) (xs : List A) → ((i : ℕ) → p (getD xs i d) ≡ true → ⊥) → count p xs ≡ 0
+  count-none d xs h = any-count xs (none-of p d xs (λ i b. refuted (p (getD xs i d)) (h i)))
+
+-- more of them where one more passes
+more : (m n : ℕ) → ltb m (m + n) ≡ not (eqb n 0)
+more m n =
+    by-cases (eqb n 0) (λ e. rw e (le-ltb m (m + n) (omega (arith, eqb-true n 0 e))))
+    (λ e. rw e (lt-ltb m (m + n) (omega (arith, eqb-false n 0 e))))
+
+-- two tests, of which one implies the other: it passes less often exactly where some element passes the other test only
+module _ {A : Type 0} (p q : A → Bool) (i : (x : A) → q x ≡ true → p x ≡ true) where
+  count-split : (xs : List A) → count p xs ≡ count q xs + count (λ x. p x && not (q x)) xs
+  unfolding count
+  count-split [] = refl
+  count-split (x ∷ xs) =
+      let h = count-split xs in
+      by-cases (q x) (λ e. rw (e, i x e) (omega arith)) (λ e. rw e (by-cases (p x) (λ f. rw f (omega arith)) (λ f. rw f h)))
+
+  pub count-fewer : (xs : List A) → ltb (count q xs) (count p xs) ≡ any (λ x. p x && not (q x)) xs
+  count-fewer xs =
+      ap (ltb (count q xs)) (count-split xs)
+      ∙ more (count q xs) (count (λ x. p x && not (q x)) xs)
+      ∙ count-some (λ x. p x && not (q x)) xs
+
+module _ {A : Type 0} where
+  -- some element fails exactly where fewer pass than there are
+  pub count-short : (p : A → Bool) (xs : List A) → any (λ x. not (p x)) xs ≡ ltb (count p xs) (length xs)
+  unfolding count
+  count-short p xs = sym (count-fewer (λ x. true) p (λ x e. refl) xs) ∙ ap (ltb (count p xs)) (everyone xs)
+    where
+      everyone : (ys : List A) → count (λ y. true) ys ≡ length ys
+      everyone [] = refl
+      everyone (y ∷ ys) = ap suc (everyone ys)
+
+  -- a list made from another
+  pub count-map : {B : Type 0} (f : A → B) (p : B → Bool) (xs : List A) → count p (map f xs) ≡ count (λ x. p (f x)) xs
+  unfolding count
+  count-map f p [] = refl
+  count-map f p (x ∷ xs) = rw (count-map f p xs)
