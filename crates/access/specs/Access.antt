@@ -1,15 +1,6 @@
 -- The access rule.
-use Prim.Native.Nat.{ℕ}
-use mathlib.Core.Bool.{Bool, true, false, cond, not, _&&_, _||_}
-use lib.Dec.{eqb}
-use Rattle.bits.specs.Bits.{within, has, without}
-use Rattle.records.specs.Constants.{readOnly, maximumAllowed}
-use Rattle.records.specs.Slots.{isData, maskOf}
-use Rattle.records.specs.Checked.{Checked, passed, refuse}
-use Rattle.records.specs.declared.Status.the-variants.{AccessDenied}
-use Rattle.records.specs.declared.File.{File}
-use Rattle.access.specs.declared.Access.{Access}
-use Rattle.access.specs.declared.Access.the-variants.{Granted, Denied}
+use Rattle.base.specs.Base.{ℕ, cond, not, _&&_, _||_, eqb, within, has, without, readOnly, maximumAllowed, isData, maskOf, Checked, passed, refuse, AccessDenied, File}
+use Rattle.access.specs.declared.Access.{Access, the-variants.{Granted, Denied}}
 
 -- effective: the account's mask on the file, less 0x6 for a data file with attribute 0x1
 unfoldable pub effective : File → ℕ → ℕ

@@ -1,28 +1,7 @@
 -- The opens counted in one pass: the counts of every stream, by its number, of the rows from a place on.
-use Prim.Native.Nat.{ℕ, _≤_, _<_}
-use mathlib.Core.Path.{_≡_, refl, sym, _∙_, ap}
-use mathlib.Core.Bool.{Bool, true, false}
-use mathlib.Core.List.{List, _∷_}
-use native.Mathlib.Omega.{arith}
-use lib.ListN.{length, getD, drop, replicate, drop-of-length-le, getD-replicate}
-use borrow.Author.Tests.{eq-eqb}
-use Rattle.lists.specs.Lists.{allFrom, count, keep}
-use Rattle.lists.proofs.Tests.{by-cases}
-use Rattle.lists.proofs.All.{numbered-same}
-use Rattle.lists.proofs.Count.{count-bound}
-use Rattle.lists.proofs.Keep.{keep-yes, keep-no, length-keep}
-use Rattle.lists.proofs.Keyed.{Noted, keyed}
-use Rattle.records.specs.Slots.{openUsed, zeroCounts}
-use Rattle.records.specs.declared.Open.{Open}
-use Rattle.records.specs.declared.ShareCounts.{ShareCounts}
-use Rattle.records.specs.declared.StreamNo.{StreamNo}
-use Rattle.records.specs.declared.Stream.{Stream}
-use Rattle.sharing.specs.Sharing.{onStream, countsOf, countsOfAll}
-use Rattle.sharing.specs.Saturating.{withOpenUpTo}
-use Rattle.sharing.proofs.Counts.{counts-cons, counts-skip}
-use Rattle.sharing.proofs.UpTo.{up-to-counts}
-use Rattle.consistency.specs.Relations.{live}
-use Rattle.consistency.specs.Test.{sameCounts, countsTest}
+use Rattle.base.{specs.Base.{ℕ, _≤_, _<_, _≡_, Bool, true, false, List, _∷_, length, getD, drop, replicate, allFrom, count, keep, openUsed, zeroCounts, Open, ShareCounts, StreamNo, Stream}, proofs.Laws.{refl, sym, _∙_, ap, arith, drop-of-length-le, getD-replicate, eq-eqb, by-cases, numbered-same, count-bound, keep-yes, keep-no, length-keep, Noted, keyed}}
+use Rattle.consistency.specs.{Relations.live, Test.{sameCounts, countsTest}}
+use Rattle.sharing.{specs.{Sharing.{onStream, countsOf, countsOfAll}, Saturating.withOpenUpTo}, proofs.{Counts.{counts-cons, counts-skip}, UpTo.up-to-counts}}
 
 -- the stream with a number, that of an open, and what rows say of it: the counts of its live opens
 abbrev stream : ℕ → StreamNo

@@ -1,29 +1,9 @@
 -- What the audit's code computes of a link, and what the test asks.
-use Prim.Native.Nat.{_≤_, _<_}
-use mathlib.Core.Path.{_≡_, ap}
-use mathlib.Core.Bool.{Bool, true, false, not}
-use mathlib.Core.List.{List}
-use mathlib.Core.Logic.{⊎-elim}
-use native.Mathlib.Omega.{arith}
-use lib.Dec.{eqb}
-use lib.ListN.{length, getD, replicate}
-use borrow.Author.Tests.{not-false, eqb-true, eq-eqb, ne-eqb}
-use Rattle.lists.specs.Lists.{same}
-use Rattle.lists.proofs.Tests.{refuted}
-use Rattle.lists.proofs.Places.{getD-default}
-use Rattle.stored_names.specs.StoredNames.{units, wellStored}
-use Rattle.records.specs.Sizes.{fileSlots, fileNameLimit}
-use Rattle.records.specs.Slots.{fileUsed, linkUsed, zeroFile}
-use Rattle.tables.specs.Tables.{fileAt}
-use Rattle.records.specs.declared.File.{File}
-use Rattle.records.specs.declared.Link.{Link}
-use Rattle.consistency.specs.Slots.{slotTest}
-use Rattle.consistency.specs.Good.{goodLink, isZeroLink, linkNamesDiffer}
-use Rattle.consistency.specs.Test.{goodLinkOf}
-use Rattle.consistency.proofs.Slots.{slot-passes}
-use Rattle.consistency.proofs.Numbered.{file-in, directory-file}
-use Rattle.consistency.proofs.Links.{link-decides}
+use Rattle.base.{specs.Base.{_≤_, _<_, _≡_, Bool, true, false, not, List, eqb, length, getD, replicate, same, fileSlots, fileNameLimit, fileUsed, linkUsed, zeroFile, File, Link}, proofs.Laws.{ap, ⊎-elim, arith, not-false, eqb-true, eq-eqb, ne-eqb, refuted, getD-default}}
 use Rattle.audit_names.proofs.StoredUnits.{zeros-stored}
+use Rattle.consistency.{specs.{Slots.slotTest, Good.{goodLink, isZeroLink, linkNamesDiffer}, Test.goodLinkOf}, proofs.{Slots.slot-passes, Numbered.{file-in, directory-file}, Links.link-decides}}
+use Rattle.stored_names.specs.StoredNames.{units, wellStored}
+use Rattle.tables.specs.Tables.{fileAt}
 
 -- a name without a first unit is well stored exactly when it is all zero
 pub free-name : (l : Link) → linkUsed l ≡ false → wellStored fileNameLimit (l .name) ≡ same (l .name) (replicate fileNameLimit 0)

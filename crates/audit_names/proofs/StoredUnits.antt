@@ -1,17 +1,8 @@
 -- A stored name's units: they are a part of it, there are none exactly where the first place is zero, and the places after
 -- them are zero exactly where the name is well stored.
-use Prim.Native.Nat.{ℕ, zero, suc, _-_, _≤_, _<_}
-use mathlib.Core.Path.{_≡_, refl, sym, ap, _∙_}
-use mathlib.Core.Bool.{Bool, false, _&&_}
-use mathlib.Core.List.{List, [], _∷_, _++_}
-use native.Mathlib.Omega.{arith}
-use lib.Dec.{eqb, eqb·suc-zero}
-use lib.ListN.{length, getD, take, drop, replicate, length-append}
-use lib.Seq.{take-append-seam}
-use Rattle.lists.specs.Lists.{all, same, isEmpty, padded}
-use Rattle.lists.proofs.Same.{same-differs, same-append}
-use Rattle.stored_names.specs.StoredNames.{units, wellStored}
-use Rattle.stored_names.proofs.NameUnits.{units-end}
+use Rattle.base.{specs.Base.{ℕ, zero, suc, _-_, _≤_, _<_, _≡_, Bool, false, _&&_, List, [], _∷_, _++_, eqb, length, getD, take, drop, replicate, all, same, isEmpty, padded}, proofs.Laws.{refl, sym, ap, _∙_, arith, same-differs, same-append}}
+use lib.{Dec.eqb·suc-zero, ListN.length-append, Seq.take-append-seam}
+use Rattle.stored_names.{specs.StoredNames.{units, wellStored}, proofs.NameUnits.units-end}
 
 -- a name is its units and what follows them
 units-prefix : (n : List ℕ) → units n ++ drop (length (units n)) n ≡ n

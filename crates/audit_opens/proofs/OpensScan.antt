@@ -1,27 +1,6 @@
 -- The audit of the open table, row by row, as the test over the whole table.
-use Prim.Native.Nat.{ℕ, _≤_, _<_}
-use mathlib.Core.Path.{_≡_, sym, _∙_, ap}
-use mathlib.Core.Bool.{Bool, false, _&&_}
-use mathlib.Core.List.{List, map}
-use mathlib.Core.Logic.{⊎-elim}
-use native.Mathlib.Omega.{arith}
-use lib.ListN.{length, getD, length-map, List·getD-map}
-use borrow.Author.Tests.{eq-eqb, le-leb}
-use Rattle.lists.specs.Lists.{all, pairs}
-use Rattle.lists.proofs.Tests.{refuted}
-use Rattle.lists.proofs.Places.{getD-default}
-use Rattle.records.specs.Sizes.{openSlots}
-use Rattle.records.specs.Slots.{openUsed}
-use Rattle.records.specs.Namespace.{BareStream, zeroBare, bareAt, bare}
-use Rattle.records.specs.declared.Stream.{Stream}
-use Rattle.records.specs.declared.Open.{Open}
-use Rattle.consistency.specs.Relations.{live}
-use Rattle.consistency.specs.Slots.{slotTest, slotsTest}
-use Rattle.consistency.specs.Good.{goodOpen, isZeroOpen, handlesDiffer}
-use Rattle.consistency.specs.Test.{goodOpenOf, opensTest}
-use Rattle.consistency.proofs.Slots.{slot-passes}
-use Rattle.consistency.proofs.Streams.{stream-in}
-use Rattle.consistency.proofs.Opens.{open-decides}
+use Rattle.base.{specs.Base.{ℕ, _≤_, _<_, _≡_, Bool, false, _&&_, List, map, length, getD, all, pairs, openSlots, openUsed, BareStream, zeroBare, bareAt, bare, Stream, Open}, proofs.Laws.{sym, _∙_, ap, ⊎-elim, arith, length-map, List·getD-map, eq-eqb, le-leb, refuted, getD-default}}
+use Rattle.consistency.{specs.{Relations.live, Slots.{slotTest, slotsTest}, Good.{goodOpen, isZeroOpen, handlesDiffer}, Test.{goodOpenOf, opensTest}}, proofs.{Slots.slot-passes, Streams.stream-in, Opens.open-decides}}
 
 -- a row, used or free
 abbrev pub openTest : List BareStream → ℕ → Open → Bool

@@ -1,30 +1,6 @@
 -- What the audit notes of each file in a pass over the links, from the last to the first, in a table by file numbers.
-use Prim.Native.Nat.{ℕ, zero, suc, _-_, _<_}
-use mathlib.Core.Path.{_≡_, refl, sym, ap, _∙_}
-use mathlib.Core.Bool.{Bool, true, false, cond, _&&_}
-use mathlib.Core.List.{List, [], _∷_}
-use native.Mathlib.Omega.{arith}
-use lib.Dec.{eqb}
-use lib.ListN.{length}
-use borrow.Author.Tests.{eq-eqb, ne-eqb}
-use Rattle.lists.specs.Lists.{all, count, keep}
-use Rattle.lists.proofs.Tests.{by-cases, and-left, and-right}
-use Rattle.lists.proofs.Count.{count-yes, count-no}
-use Rattle.lists.proofs.Keyed.{keyed, keyed-own}
-use Rattle.records.specs.Sizes.{fileSlots}
-use Rattle.records.specs.Slots.{fileUsed, linkUsed}
-use Rattle.records.specs.declared.FileNo.{FileNo}
-use Rattle.records.specs.declared.File.{File}
-use Rattle.records.specs.declared.Link.{Link}
-use Rattle.consistency.specs.Relations.{linkTo, parentOf, reaches}
-use Rattle.consistency.specs.Slots.{slotTest}
-use Rattle.consistency.specs.Good.{isZeroLink}
-use Rattle.consistency.specs.Test.{goodLinkOf, linksOfFile}
-use Rattle.consistency.proofs.Slots.{slot-good}
-use Rattle.consistency.proofs.Numbered.{same-file, file-in, directory-file}
-use Rattle.consistency.proofs.Relations.{link-to-iff}
-use Rattle.consistency.proofs.Links.{link-decides}
-use Rattle.consistency.proofs.Parents.{links-kept, parent-here, parent-next, reaches-kept}
+use Rattle.base.{specs.Base.{ℕ, zero, suc, _-_, _<_, _≡_, Bool, true, false, cond, _&&_, List, [], _∷_, eqb, length, all, count, keep, fileSlots, fileUsed, linkUsed, FileNo, File, Link}, proofs.Laws.{sym, ap, _∙_, arith, eq-eqb, ne-eqb, by-cases, and-left, and-right, count-yes, count-no, keyed, keyed-own}}
+use Rattle.consistency.{specs.{Relations.{linkTo, parentOf, reaches}, Slots.slotTest, Good.isZeroLink, Test.{goodLinkOf, linksOfFile}}, proofs.{Slots.slot-good, Numbered.{same-file, file-in, directory-file}, Relations.link-to-iff, Links.link-decides, Parents.{links-kept, parent-here, parent-next, reaches-kept}}}
 
 -- the number of the file that a link names; and what links say of a file's number: how many name it, and its parent
 abbrev pub fileOf : Link → ℕ

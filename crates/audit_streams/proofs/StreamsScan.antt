@@ -1,38 +1,10 @@
 -- The audit of the streams table, stream by stream, as the test over the whole table. The test is over streams without
 -- their counts, the audit over the streams themselves.
-use Prim.Native.Nat.{ℕ, _+_, _≤_, _<_}
-use mathlib.Core.Path.{_≡_, refl, sym, _∙_, ap}
-use mathlib.Core.Bool.{Bool, true, false, cond, not, _&&_, _||_}
-use mathlib.Core.List.{List, map}
-use mathlib.Core.Logic.{_⊎_, ⊎-elim}
-use native.Mathlib.Omega.{arith}
-use lib.Dec.{eqb}
-use lib.ListN.{length, getD, set, take, replicate, length-map, length-replicate, length-set, length-take, getD-replicate}
-use lib.Seq.{take-all}
-use borrow.Author.Tests.{eq-eqb}
-use Rattle.lists.specs.Lists.{all, allFrom, count, isEmpty, keep, pairs, same}
-use Rattle.lists.proofs.Tests.{refuted, one}
-use Rattle.lists.proofs.Places.{getD-default}
-use Rattle.lists.proofs.All.{all-map, numbered-same}
-use Rattle.lists.proofs.Count.{count-bound, count-map}
-use Rattle.lists.proofs.Keep.{keep-map}
-use Rattle.lists.proofs.Pairs.{pairs-map}
-use Rattle.lists.proofs.Keyed.{Noted, keyed, keyed-own, front-skip, front-add}
+use Rattle.base.{specs.Base.{ℕ, _+_, _≤_, _<_, _≡_, Bool, true, false, cond, not, _&&_, _||_, List, map, _⊎_, eqb, length, getD, set, take, replicate, all, allFrom, count, isEmpty, keep, pairs, fileSlots, streamSlots, isDirectory, fileUsed, streamUsed, zeroFile, BareStream, bareUsed, bare, FileNo, File, Stream}, proofs.Laws.{sym, _∙_, ap, ⊎-elim, arith, length-map, length-set, length-take, getD-replicate, take-all, eq-eqb, refuted, one, getD-default, numbered-same, count-bound, count-map, keep-map, pairs-map, Noted, keyed, keyed-own, front-skip, front-add}}
+use lib.ListN.{length-replicate}
+use Rattle.consistency.{specs.{Relations.{streamOf, unnamedOf}, Slots.{slotTest, slotsTest}, Good.{goodStream, isZeroStream, streamNamesDiffer}, Test.{goodStreamOf, streamsOfFile, streamsTest}}, proofs.{Slots.slot-passes, Numbered.file-in, Streams.{stream-decides, streams-kept, unnamed-kept}}}
 use Rattle.stored_names.specs.StoredNames.{units}
-use Rattle.records.specs.Sizes.{fileSlots, streamSlots}
-use Rattle.records.specs.Slots.{isDirectory, fileUsed, streamUsed, zeroFile}
 use Rattle.tables.specs.Tables.{fileAt}
-use Rattle.records.specs.Namespace.{BareStream, bareUsed, bare}
-use Rattle.records.specs.declared.FileNo.{FileNo}
-use Rattle.records.specs.declared.File.{File}
-use Rattle.records.specs.declared.Stream.{Stream}
-use Rattle.consistency.specs.Relations.{streamOf, unnamedOf}
-use Rattle.consistency.specs.Slots.{slotTest, slotsTest}
-use Rattle.consistency.specs.Good.{goodStream, isZeroStream, streamNamesDiffer}
-use Rattle.consistency.specs.Test.{goodStreamOf, streamsOfFile, streamsTest}
-use Rattle.consistency.proofs.Slots.{slot-passes}
-use Rattle.consistency.proofs.Numbered.{file-in}
-use Rattle.consistency.proofs.Streams.{stream-decides, streams-kept, unnamed-kept}
 
 -- a slot, used or free
 abbrev pub streamTest : List File → BareStream → Bool

@@ -1,13 +1,9 @@
 -- Numbers as sets of bits: how the tests of a set answer to intersection, union and difference.
 use Prim.Native.Nat.{ℕ, zero, suc, _-_, _/_, _%_, _≤_, min, max}
-use mathlib.Core.Path.{_≡_, refl, sym, _∙_, ap, ap₂}
-use mathlib.Core.Bool.{true, false, not, _||_, true≢false}
-use mathlib.Core.Logic.{_↔_, _≢_}
-use native.Mathlib.Omega.{arith}
-use lib.Arith.{bin-ind}
-use lib.Bits.{bitAnd, bitOr, and-step, or-step, and-shr, or-shr, and-comm, or-comm, and-self, and-zero-r, or-zero-r, and-le-l, and-le-r, or-add-and, or-disjoint}
-use lib.Dec.{eqb}
 use borrow.Author.Tests.{eqb-true, eq-eqb, ne-eqb, not-false}
+use lib.{Arith.bin-ind, Bits.{bitAnd, bitOr, and-step, or-step, and-shr, or-shr, and-comm, or-comm, and-self, and-zero-r, or-zero-r, and-le-l, and-le-r, or-add-and, or-disjoint}, Dec.eqb}
+use mathlib.Core.{Path.{_≡_, refl, sym, _∙_, ap, ap₂}, Bool.{true, false, not, _||_, true≢false}, Logic.{_↔_, _≢_}}
+use native.Mathlib.Omega.{arith}
 use Rattle.bits.specs.Bits.{within, has, without}
 
 -- ---- the operations: the lowest digit of a result, and the rest

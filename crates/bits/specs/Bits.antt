@@ -1,8 +1,7 @@
 -- A number as the set of its bits. Access masks, create options, attributes and sharing modes are such sets.
 use Prim.Native.Nat.{ℕ, _-_}
+use lib.{Bits.bitAnd, Dec.eqb}
 use mathlib.Core.Bool.{Bool, not}
-use lib.Bits.{bitAnd}
-use lib.Dec.{eqb}
 
 -- every bit of a is in m
 unfoldable pub within : ℕ → ℕ → Bool

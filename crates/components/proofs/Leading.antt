@@ -1,15 +1,7 @@
 -- Laws of `leading`, the count of elements before the first that fails a test, and of parts that end there.
-use Prim.Native.Nat.{ℕ, zero, suc, _+_, _-_, _≤_, _<_}
-use mathlib.Core.Path.{_≡_, refl, sym, ap, _∙_}
-use mathlib.Core.Bool.{Bool, true, false, cond}
-use mathlib.Core.List.{List, [], _∷_}
+use Rattle.base.{specs.Base.{ℕ, zero, suc, _+_, _-_, _≤_, _<_, _≡_, Bool, true, false, cond, List, [], _∷_, eqb, length, getD, take, drop, replicate, slice}, proofs.Laws.{refl, sym, ap, _∙_, arith, drop-of-length-le, length-drop, length-take, eqb-true, drop-next}}
+use lib.Seq.{take-nil, take-take, drop-drop}
 use native.Mathlib.Nat.{add-zero, sub-zero, zero-sub, suc-sub-suc}
-use native.Mathlib.Omega.{arith}
-use lib.Dec.{eqb}
-use lib.ListN.{length, getD, take, drop, drop-of-length-le, replicate, length-drop, length-take}
-use lib.Seq.{slice, take-nil, take-take, drop-drop}
-use borrow.Author.Tests.{eqb-true}
-use Rattle.lists.proofs.Places.{drop-next}
 use Rattle.components.specs.Positions.{leading, isSign}
 
 -- from a place on, as a loop finds it

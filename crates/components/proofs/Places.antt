@@ -1,19 +1,11 @@
 -- Laws of the places that the code finds in a path: the next component, the components before it, and the first sign in a
 -- part.
-use Prim.Native.Nat.{ℕ, zero, suc, _+_, _-_, _≤_, _<_}
-use mathlib.Core.Path.{_≡_, refl, sym, ap, _∙_}
-use mathlib.Core.Bool.{false}
-use mathlib.Core.List.{List, [], _∷_, _++_}
+use Rattle.base.{specs.Base.{ℕ, zero, suc, _+_, _-_, _≤_, _<_, _≡_, false, List, [], _∷_, _++_, length, take, drop, replicate, slice, isEmpty}, proofs.Laws.{refl, sym, ap, _∙_, arith, length-drop, take-all}}
+use lib.Seq.{drop-drop, take-add}
 use native.Mathlib.Nat.{zero-add, add-zero}
-use native.Mathlib.Omega.{arith}
-use lib.ListN.{length, take, drop, replicate, length-drop}
-use lib.Seq.{slice, drop-drop, take-add, take-all}
-use Rattle.lists.specs.Lists.{isEmpty}
 use Rattle.units.specs.Units.{backslash}
-use Rattle.components.specs.Components.{split, components}
-use Rattle.components.specs.Positions.{leading, isSign, noSign, placeOf, placeAfter, partOf, nextComponent}
-use Rattle.components.proofs.Leading.{leading-le, leading-rest, leading-signs, slice-start, slice-take, slice-drop}
-use Rattle.components.proofs.Splitting.{split-one, split-more, not-empty, components-skip, components-first, components-none, components-single, components-trail, signs-alone, Open, open-signs, open-trail}
+use Rattle.components.proofs.{Leading.{leading-le, leading-rest, leading-signs, slice-start, slice-take, slice-drop}, Splitting.{split-one, split-more, not-empty, components-skip, components-first, components-none, components-single, components-trail, signs-alone, Open, open-signs, open-trail}}
+use Rattle.components.specs.{Components.{split, components}, Positions.{leading, isSign, noSign, placeOf, placeAfter, partOf, nextComponent}}
 
 module _ (path : List ℕ) (at : ℕ) where
   abbrev pub nextStart : ℕ

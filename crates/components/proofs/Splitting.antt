@@ -1,19 +1,10 @@
 -- Laws of `split` and `components`: the first part, what follows it, and where a path may be cut.
-use Prim.Native.Nat.{ℕ, zero, suc, _≤_, _<_}
-use mathlib.Core.Path.{_≡_, refl, sym, ap, _∙_}
-use mathlib.Core.Bool.{Bool, true, false, not, cond}
-use mathlib.Core.List.{List, [], _∷_, _++_, append-nil, append-assoc}
-use native.Mathlib.Omega.{arith}
-use lib.Dec.{eqb}
-use lib.ListN.{length, take, drop, replicate, length-take, take-append-drop}
-use lib.Seq.{take-length, drop-length, drop-cons}
-use borrow.Author.Tests.{eq-eqb}
-use Rattle.lists.specs.Lists.{keep, isEmpty}
-use Rattle.lists.proofs.Keep.{keep-append}
+use Rattle.base.{specs.Base.{ℕ, zero, suc, _≤_, _<_, _≡_, Bool, true, false, not, cond, List, [], _∷_, _++_, eqb, length, take, drop, replicate, keep, isEmpty}, proofs.Laws.{refl, sym, ap, _∙_, arith, length-take, eq-eqb, keep-append}}
+use lib.{ListN.take-append-drop, Seq.{take-length, drop-length, drop-cons}}
+use mathlib.Core.List.{append-nil, append-assoc}
 use Rattle.units.specs.Units.{backslash}
-use Rattle.components.specs.Components.{split, startPart, components}
-use Rattle.components.specs.Positions.{leading, isSign, noSign}
 use Rattle.components.proofs.Leading.{leading-le, leading-rest, leading-take, leading-signs}
+use Rattle.components.specs.{Components.{split, startPart, components}, Positions.{leading, isSign, noSign}}
 
 -- the parts after the first separator, which the list starts with
 abbrev pub splitRest : ℕ → List ℕ → List (List ℕ)

@@ -1,9 +1,5 @@
 -- Step 4: a path's components.
-use Prim.Native.Nat.{ℕ}
-use mathlib.Core.Bool.{cond, not}
-use mathlib.Core.List.{List, [], _∷_}
-use lib.Dec.{eqb}
-use Rattle.lists.specs.Lists.{isEmpty, keep}
+use Rattle.base.specs.Base.{ℕ, cond, not, List, [], _∷_, eqb, isEmpty, keep}
 use Rattle.units.specs.Units.{backslash}
 
 -- the parts of a list between separators, one more than there are separators

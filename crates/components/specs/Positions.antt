@@ -1,13 +1,7 @@
 -- Step 4: positions in a path, as the code finds them.
-use Prim.Native.Nat.{ℕ, suc, _+_}
-use mathlib.Core.Bool.{Bool, not, cond}
-use mathlib.Core.List.{List, [], _∷_}
-use lib.Dec.{eqb}
-use lib.ListN.{take, drop}
-use lib.Seq.{slice}
+use Rattle.base.specs.Base.{ℕ, suc, _+_, Bool, not, cond, List, [], _∷_, eqb, take, drop, slice}
 use Rattle.units.specs.Units.{backslash}
-use Rattle.components.specs.Components.{components}
-use Rattle.components.specs.declared.Part.{Part}
+use Rattle.components.specs.{Components.components, declared.Part.Part}
 
 -- how many elements pass before the first that fails
 unfoldable pub leading : (ℕ → Bool) → List ℕ → ℕ

@@ -1,21 +1,8 @@
 -- Share counts: the test answers true exactly when every slot's counts are those of the live opens.
-use Prim.Native.Nat.{ℕ}
-use mathlib.Core.Path.{_≡_}
-use mathlib.Core.Bool.{Bool, true}
-use mathlib.Core.List.{List}
-use mathlib.Core.Logic.{_↔_}
-use Rattle.records.specs.Slots.{zeroStream}
-use Rattle.tables.specs.Tables.{streamAt}
-use Rattle.records.specs.declared.StreamNo.{StreamNo}
-use Rattle.records.specs.declared.ShareCounts.{ShareCounts}
-use Rattle.records.specs.declared.Stream.{Stream}
-use Rattle.records.specs.declared.Open.{Open}
+use Rattle.base.{specs.Base.{ℕ, _≡_, Bool, true, List, _↔_, zeroStream, StreamNo, ShareCounts, Stream, Open}, proofs.Laws.{and-iff, eqb-iff, numbered-at, numbered-of}}
 use Rattle.sharing.specs.Sharing.{countsOf}
-use Rattle.consistency.specs.Relations.{live}
-use Rattle.consistency.specs.Test.{sameCounts, countsTest}
-use Rattle.consistency.specs.Consistent.{CountsTrue}
-use Rattle.lists.proofs.Tests.{and-iff, eqb-iff}
-use Rattle.lists.proofs.All.{numbered-at, numbered-of}
+use Rattle.tables.specs.Tables.{streamAt}
+use Rattle.consistency.specs.{Relations.live, Test.{sameCounts, countsTest}, Consistent.CountsTrue}
 
 -- two records of counts pass the test exactly when they are equal
 pub same-counts : (c d : ShareCounts) → sameCounts c d ≡ true → c ≡ d

@@ -1,33 +1,11 @@
 -- What follows from consistency: used slots by their numbers; and a free stream is all zero, its counts
 -- too, since no open names it.
-use Prim.Native.Nat.{ℕ, _≤_, _<_}
-use mathlib.Core.Path.{_≡_, refl, sym, _∙_, ap}
-use mathlib.Core.Bool.{true, false}
-use mathlib.Core.List.{List, map}
+use Rattle.base.{specs.Base.{ℕ, _≤_, _<_, _≡_, true, false, List, map, length, any, streamSlots, zeroStream, zeroOpen, isUsed, fileUsed, streamUsed, openUsed, BareStream, bare, bareUsed, bareAt, namespace, FileNo, StreamNo, File, Stream, Open, OpenTable, Volume}, proofs.Laws.{refl, sym, _∙_, ap, arith, List·getD-map, List·getD-eq-default, not-both, fails-iff, none-kept-of}}
 use native.Mathlib.Decide.{decLt}
-use native.Mathlib.Omega.{arith}
-use lib.ListN.{length, List·getD-map, List·getD-eq-default}
-use Rattle.lists.specs.Lists.{any}
-use Rattle.lists.proofs.Tests.{not-both, fails-iff}
-use Rattle.lists.proofs.Keep.{none-kept-of}
-use Rattle.records.specs.Sizes.{streamSlots}
-use Rattle.records.specs.Slots.{zeroStream, zeroOpen, isUsed, fileUsed, streamUsed, openUsed}
+use Rattle.sharing.{specs.Sharing.onStream, proofs.Counts.counts-none}
 use Rattle.tables.specs.Tables.{fileAt, streamAt}
-use Rattle.records.specs.Namespace.{BareStream, zeroBare, bare, bareUsed, bareAt, namespace}
-use Rattle.records.specs.declared.FileNo.{FileNo}
-use Rattle.records.specs.declared.StreamNo.{StreamNo}
-use Rattle.records.specs.declared.File.{File}
-use Rattle.records.specs.declared.Stream.{Stream}
-use Rattle.records.specs.declared.Open.{Open}
-use Rattle.records.specs.declared.OpenTable.{OpenTable}
-use Rattle.records.specs.declared.Volume.{Volume}
-use Rattle.sharing.specs.Sharing.{onStream}
-use Rattle.sharing.proofs.Counts.{counts-none}
-use Rattle.consistency.specs.Relations.{live}
-use Rattle.consistency.specs.Good.{GoodFile}
-use Rattle.consistency.specs.Consistent.{FilesConsistent, GoodStreamOf, StreamsConsistent, openAt, OpensConsistent, Consistent}
-use Rattle.consistency.proofs.Slots.{slots-below}
-use Rattle.consistency.proofs.Numbered.{stream-iff}
+use Rattle.consistency.proofs.{Slots.slots-below, Numbered.stream-iff}
+use Rattle.consistency.specs.{Relations.live, Good.GoodFile, Consistent.{FilesConsistent, GoodStreamOf, StreamsConsistent, openAt, OpensConsistent, Consistent}}
 
 -- used slots by their numbers
 pub file-good : {fs : List File} → FilesConsistent fs → (f : FileNo) → fileUsed (fileAt fs f) ≡ true → GoodFile (fileAt fs f)

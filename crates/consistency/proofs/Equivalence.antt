@@ -1,18 +1,7 @@
 -- The test that computes answers true exactly when the tables are consistent.
-use mathlib.Core.Path.{_≡_}
-use mathlib.Core.Bool.{true}
-use mathlib.Core.Logic.{_↔_}
-use Rattle.lists.proofs.Tests.{and-iff}
-use Rattle.records.specs.Namespace.{namespace}
-use Rattle.records.specs.declared.OpenTable.{OpenTable}
-use Rattle.records.specs.declared.Volume.{Volume}
-use Rattle.consistency.specs.Test.{consistent}
-use Rattle.consistency.specs.Consistent.{Consistent}
-use Rattle.consistency.proofs.Files.{files-iff}
-use Rattle.consistency.proofs.Links.{links-iff}
-use Rattle.consistency.proofs.Streams.{streams-iff}
-use Rattle.consistency.proofs.Opens.{opens-iff, conflicts-iff}
-use Rattle.consistency.proofs.Counts.{counts-iff}
+use Rattle.base.{specs.Base.{_≡_, true, _↔_, OpenTable, Volume}, proofs.Laws.and-iff}
+use Rattle.consistency.proofs.{Files.files-iff, Links.links-iff, Streams.streams-iff, Opens.{opens-iff, conflicts-iff}, Counts.counts-iff}
+use Rattle.consistency.specs.{Test.consistent, Consistent.Consistent}
 
 pub consistent-iff : (v : Volume) (t : OpenTable) → (consistent v t ≡ true) ↔ Consistent v t
 unfolding consistent

@@ -1,18 +1,7 @@
 -- The files table: the test answers true exactly when the statements hold.
-use mathlib.Core.Path.{_≡_, refl, ap}
-use mathlib.Core.Bool.{true}
-use mathlib.Core.List.{List}
-use mathlib.Core.Logic.{_↔_}
-use Rattle.lists.specs.Lists.{same}
-use Rattle.lists.proofs.Tests.{and-iff, eqb-iff, beq-iff}
-use Rattle.lists.proofs.Same.{same-iff}
-use Rattle.records.specs.Slots.{zeroFile, isUsed, fileUsed}
-use Rattle.records.specs.declared.File.{File}
-use Rattle.consistency.specs.Good.{GoodFile, goodFile, isZeroFile}
-use Rattle.consistency.specs.Consistent.{FilesConsistent}
-use Rattle.consistency.specs.Test.{filesTest}
-use Rattle.consistency.proofs.Slots.{Decides, slots-iff}
-use Rattle.consistency.proofs.Numbered.{unused}
+use Rattle.base.{specs.Base.{_≡_, true, List, _↔_, same, zeroFile, isUsed, fileUsed, File}, proofs.Laws.{refl, ap, and-iff, eqb-iff, beq-iff, same-iff}}
+use Rattle.consistency.proofs.{Slots.{Decides, slots-iff}, Numbered.unused}
+use Rattle.consistency.specs.{Good.{GoodFile, goodFile, isZeroFile}, Consistent.FilesConsistent, Test.filesTest}
 
 pub file-decides : Decides fileUsed goodFile isZeroFile zeroFile GoodFile
 unfolding fileUsed isUsed goodFile isZeroFile same

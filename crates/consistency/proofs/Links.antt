@@ -1,32 +1,11 @@
 -- The links table: over consistent files the test answers true exactly when the statements hold. The files' number
 -- bounds the steps to the root.
-use Prim.Native.Nat.{ℕ, _<_}
-use mathlib.Core.Path.{_≡_, refl, sym, _∙_, ap}
-use mathlib.Core.Bool.{true, cond}
-use mathlib.Core.List.{List}
-use mathlib.Core.Logic.{_↔_, _≢_}
-use lib.Dec.{eqb}
-use lib.ListN.{length}
-use Rattle.lists.specs.Lists.{allFrom, count, keep, pairs, same}
-use Rattle.lists.proofs.Tests.{by-cases, and-iff, eqb-iff, cond-true, cond-false, fails-iff, guard-iff}
+use Rattle.base.{specs.Base.{ℕ, _<_, _≡_, true, cond, List, _↔_, _≢_, eqb, length, allFrom, count, keep, pairs, same, fileSlots, root, zeroLink, fileUsed, linkUsed, FileNo, LinkNo, File, Link}, proofs.Laws.{refl, sym, _∙_, ap, by-cases, and-iff, eqb-iff, cond-true, cond-false, fails-iff, guard-iff, same-iff}}
 use Rattle.lists.proofs.Places.{used-below}
-use Rattle.lists.proofs.Same.{same-iff}
-use Rattle.records.specs.Sizes.{fileSlots}
-use Rattle.records.specs.Slots.{root, zeroLink, fileUsed, linkUsed}
-use Rattle.tables.specs.Tables.{fileAt, linkAt}
-use Rattle.records.specs.declared.FileNo.{FileNo}
-use Rattle.records.specs.declared.LinkNo.{LinkNo}
-use Rattle.records.specs.declared.File.{File}
-use Rattle.records.specs.declared.Link.{Link}
 use Rattle.stored_names.specs.StoredNames.{units}
-use Rattle.consistency.specs.Relations.{linkTo, climb, reaches}
-use Rattle.consistency.specs.Slots.{EveryTwo}
-use Rattle.consistency.specs.Good.{goodLink, isZeroLink, linkNamesDiffer, LinkNamesDiffer}
-use Rattle.consistency.specs.Consistent.{FilesConsistent, GoodLinkOf, LinksConsistent}
-use Rattle.consistency.specs.Test.{goodLinkOf, linksOfFile, linksTest}
-use Rattle.consistency.proofs.Slots.{Decides, slots-iff, two-iff}
-use Rattle.consistency.proofs.Numbered.{same-file, file-iff, names-iff, directory-file, files-each}
-use Rattle.consistency.proofs.Parents.{links-kept, reaches-kept, reaches-climbs, few-steps}
+use Rattle.tables.specs.Tables.{fileAt, linkAt}
+use Rattle.consistency.proofs.{Slots.{Decides, slots-iff, two-iff}, Numbered.{same-file, file-iff, names-iff, directory-file, files-each}, Parents.{links-kept, reaches-kept, reaches-climbs, few-steps}}
+use Rattle.consistency.specs.{Relations.{linkTo, reaches}, Slots.EveryTwo, Good.{goodLink, isZeroLink, linkNamesDiffer, LinkNamesDiffer}, Consistent.{FilesConsistent, GoodLinkOf, LinksConsistent}, Test.{goodLinkOf, linksOfFile, linksTest}}
 
 pub link-decides : (fs : List File) → Decides linkUsed (goodLinkOf fs) isZeroLink zeroLink (GoodLinkOf fs)
 unfolding linkUsed goodLink isZeroLink same

@@ -1,25 +1,7 @@
 -- Numbers that are types of their own, the types of files, and tests of every file with its number.
-use Prim.Native.Nat.{ℕ, _<_}
-use mathlib.Core.Path.{_≡_, refl}
-use mathlib.Core.Bool.{Bool, true, false, not, _&&_, false≢true, true≢false}
-use mathlib.Core.List.{List}
-use mathlib.Core.Logic.{_↔_, _≢_}
-use lib.Dec.{eqb}
-use lib.ListN.{length}
-use borrow.Author.Tests.{eqb-true, eq-eqb}
-use Rattle.lists.specs.Lists.{allFrom, same}
-use Rattle.lists.proofs.Tests.{fails-iff, exclude-iff}
+use Rattle.base.{specs.Base.{ℕ, _<_, _≡_, Bool, true, false, not, _&&_, List, _↔_, _≢_, eqb, length, allFrom, same, isUsed, isDirectory, zeroFile, fileUsed, FileType, Unused, Data, Directory, FileNo, StreamNo, Handle, File}, proofs.Laws.{refl, false≢true, true≢false, eqb-true, eq-eqb, fails-iff, exclude-iff, same-iff, numbered-at, numbered-of}}
 use Rattle.lists.proofs.Places.{used-below}
-use Rattle.lists.proofs.Same.{same-iff}
-use Rattle.lists.proofs.All.{numbered-at, numbered-of}
-use Rattle.records.specs.Slots.{isUsed, isDirectory, zeroFile, fileUsed}
 use Rattle.tables.specs.Tables.{fileAt}
-use Rattle.records.specs.declared.FileType.{FileType}
-use Rattle.records.specs.declared.FileType.the-variants.{Unused, Data, Directory}
-use Rattle.records.specs.declared.FileNo.{FileNo}
-use Rattle.records.specs.declared.StreamNo.{StreamNo}
-use Rattle.records.specs.declared.Handle.{Handle}
-use Rattle.records.specs.declared.File.{File}
 use Rattle.consistency.specs.Relations.{typeAt}
 
 -- numbers of a type of their own are equal where the numbers are, which a test decides

@@ -1,23 +1,7 @@
 -- The table of opens, and that no two conflict: the tests answer true exactly when the statements hold.
-use Prim.Native.Nat.{ℕ}
-use mathlib.Core.Path.{_≡_, refl, ap}
-use mathlib.Core.Bool.{true}
-use mathlib.Core.List.{List}
-use mathlib.Core.Logic.{_↔_}
-use lib.Dec.{eqb}
-use borrow.Author.Tests.{eqb-true, eqb-false, ne-eqb, not-true, not-false}
-use Rattle.lists.specs.Lists.{keep, pairs}
-use Rattle.lists.proofs.Tests.{and-iff, not-iff, not-is, eqb-iff, leb-iff, fails-iff, exclude-iff}
-use Rattle.records.specs.Slots.{root, zeroOpen, openUsed}
-use Rattle.records.specs.Namespace.{BareStream, bareAt}
-use Rattle.records.specs.declared.Open.{Open}
-use Rattle.consistency.specs.Relations.{live}
-use Rattle.consistency.specs.Slots.{EveryTwo}
-use Rattle.consistency.specs.Good.{goodOpen, isZeroOpen, handlesDiffer, opensAgree, HandlesDiffer, OpensAgree}
-use Rattle.consistency.specs.Consistent.{openAt, GoodOpenOf, OpensConsistent, NoConflicts}
-use Rattle.consistency.specs.Test.{goodOpenOf, opensTest, conflictsTest}
-use Rattle.consistency.proofs.Slots.{Decides, slots-iff, two-iff}
-use Rattle.consistency.proofs.Numbered.{same-file, same-stream, same-handle, file-iff, stream-iff, handle-iff}
+use Rattle.base.{specs.Base.{ℕ, _≡_, true, List, _↔_, eqb, keep, pairs, root, zeroOpen, openUsed, BareStream, bareAt, Open}, proofs.Laws.{refl, ap, eqb-true, eqb-false, ne-eqb, not-true, not-false, and-iff, not-iff, not-is, eqb-iff, leb-iff, fails-iff, exclude-iff}}
+use Rattle.consistency.proofs.{Slots.{Decides, slots-iff, two-iff}, Numbered.{same-file, same-stream, same-handle, stream-iff, handle-iff}}
+use Rattle.consistency.specs.{Relations.live, Slots.EveryTwo, Good.{goodOpen, isZeroOpen, handlesDiffer, opensAgree, HandlesDiffer, OpensAgree}, Consistent.{GoodOpenOf, OpensConsistent, NoConflicts}, Test.{goodOpenOf, opensTest, conflictsTest}}
 
 pub open-decides : (ss : List BareStream) (next : ℕ) → Decides openUsed (goodOpenOf ss next) isZeroOpen zeroOpen (GoodOpenOf ss next)
 unfolding openUsed goodOpen isZeroOpen

@@ -1,28 +1,10 @@
 -- Parents: what a file's parent is, and that a way to the root visits no file twice, so that it is at most as long as
 -- there are files.
-use Prim.Native.Nat.{ℕ, zero, suc, _+_, _-_, _≤_, _<_}
-use mathlib.Core.Path.{_≡_, refl, sym, _∙_, ap}
-use mathlib.Core.Bool.{Bool, true, false, _||_}
-use mathlib.Core.List.{List, [], _∷_}
-use mathlib.Core.Logic.{_≢_, ⊎-elim}
+use Rattle.base.{specs.Base.{ℕ, zero, suc, _+_, _-_, _≤_, _<_, _≡_, Bool, true, false, _||_, List, [], _∷_, _≢_, eqb, length, getD, count, keep, root, zeroLink, fileUsed, linkUsed, FileNo, File, Link}, proofs.Laws.{refl, sym, _∙_, ap, ⊎-elim, arith, eqb-true, eqb-false, eq-eqb, by-cases, refuted, not-both, or-cases, or-left, or-right, count-yes, count-no, keep-yes, keep-no, count-keep, pigeonhole, least}}
 use native.Mathlib.Nat.{zero-add, suc-add}
-use native.Mathlib.Omega.{arith}
-use lib.Dec.{eqb}
-use lib.ListN.{length, getD}
-use borrow.Author.Tests.{eqb-true, eqb-false, eq-eqb}
-use Rattle.lists.specs.Lists.{count, keep}
-use Rattle.lists.proofs.Tests.{by-cases, refuted, not-both, or-cases, or-left, or-right}
-use Rattle.lists.proofs.Count.{count-yes, count-no}
-use Rattle.lists.proofs.Keep.{keep-yes, keep-no, count-keep}
-use Rattle.lists.proofs.Pigeonhole.{pigeonhole, least}
-use Rattle.records.specs.Slots.{root, zeroLink, fileUsed, linkUsed}
 use Rattle.tables.specs.Tables.{fileAt}
-use Rattle.records.specs.declared.FileNo.{FileNo}
-use Rattle.records.specs.declared.File.{File}
-use Rattle.records.specs.declared.Link.{Link}
+use Rattle.consistency.proofs.{Relations.link-to-iff, Numbered.{same-file, file-in}}
 use Rattle.consistency.specs.Relations.{linkTo, parentOf, climb, reaches}
-use Rattle.consistency.proofs.Relations.{link-to-iff}
-use Rattle.consistency.proofs.Numbered.{same-file, file-in}
 
 pub links-kept : (f : FileNo) (ls : List Link) → count (linkTo f) (keep linkUsed ls) ≡ count (linkTo f) ls
 links-kept f ls = count-keep linkUsed (linkTo f) (λ l h. link-to-iff f l .0 h .0) ls

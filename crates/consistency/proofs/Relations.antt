@@ -1,19 +1,8 @@
 -- What the tests on a file's links and streams decide.
-use Prim.Native.Nat.{ℕ}
-use mathlib.Core.Path.{_≡_, ap}
-use mathlib.Core.Bool.{true}
-use mathlib.Core.List.{List, []}
-use mathlib.Core.Logic.{_↔_}
-use Rattle.lists.specs.Lists.{isEmpty}
-use Rattle.lists.proofs.Tests.{and-iff}
-use Rattle.lists.proofs.Same.{empty-is}
-use Rattle.records.specs.Slots.{linkUsed}
-use Rattle.records.specs.Namespace.{BareStream, bareUsed}
-use Rattle.records.specs.declared.FileNo.{FileNo}
-use Rattle.records.specs.declared.Link.{Link}
+use Rattle.base.{specs.Base.{ℕ, _≡_, true, List, [], _↔_, isEmpty, linkUsed, BareStream, bareUsed, FileNo, Link}, proofs.Laws.{ap, and-iff, empty-is}}
 use Rattle.stored_names.specs.StoredNames.{units}
-use Rattle.consistency.specs.Relations.{linkTo, streamOf, unnamedOf}
 use Rattle.consistency.proofs.Numbered.{file-iff}
+use Rattle.consistency.specs.Relations.{linkTo, streamOf, unnamedOf}
 
 pub link-to-iff : (f : FileNo) (l : Link) → (linkTo f l ≡ true) ↔ ((linkUsed l ≡ true) × (l .file ≡ f))
 unfolding linkTo

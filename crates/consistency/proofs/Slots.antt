@@ -1,18 +1,7 @@
 -- The laws of a table's slots: a test decides them; when one is set, and when other things are asked of a used one, they
 -- stay as they should be.
-use Prim.Native.Nat.{ℕ, _<_}
-use mathlib.Core.Path.{_≡_, refl, sym, _∙_, ap}
-use mathlib.Core.Bool.{Bool, true, false, cond}
-use mathlib.Core.List.{List}
-use mathlib.Core.Logic.{_↔_, _⊎_, inl, inr}
-use native.Mathlib.Omega.{arith}
-use lib.ListN.{getD, set, length-set}
-use Rattle.lists.specs.Lists.{all, keep, pairs}
-use Rattle.lists.proofs.Tests.{by-cases, cond-true, cond-false, not-both, and-iff, eqb-iff}
+use Rattle.base.{specs.Base.{ℕ, _<_, _≡_, Bool, true, false, List, _↔_, _⊎_, inl, inr, getD, set, keep, pairs}, proofs.Laws.{refl, sym, _∙_, arith, length-set, by-cases, cond-true, cond-false, not-both, and-iff, eqb-iff, all-of, all-slots, pairs-keep-at, pairs-keep-of, set-each, set-pairs}}
 use Rattle.lists.proofs.Places.{used-below}
-use Rattle.lists.proofs.All.{all-of, all-slots}
-use Rattle.lists.proofs.Pairs.{pairs-keep-at, pairs-keep-of}
-use Rattle.lists.proofs.Set.{set-each, set-pairs}
 use Rattle.consistency.specs.Slots.{Slots, EveryTwo, slotTest, slotsTest}
 
 -- what tests decide of a table's records: that a used one is good, and that a free one is all zero

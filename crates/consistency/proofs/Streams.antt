@@ -1,30 +1,10 @@
 -- The streams table: the test answers true exactly when the statements hold.
-use Prim.Native.Nat.{_<_}
-use mathlib.Core.Path.{_≡_, refl, ap}
-use mathlib.Core.Bool.{true}
-use mathlib.Core.List.{List}
-use mathlib.Core.Logic.{_↔_}
-use lib.ListN.{length}
-use Rattle.lists.specs.Lists.{allFrom, count, keep, pairs, same}
-use Rattle.lists.proofs.Tests.{and-iff, eqb-iff, beq-iff, guard-iff}
+use Rattle.base.{specs.Base.{_<_, _≡_, true, List, _↔_, length, allFrom, count, keep, pairs, same, root, isUsed, isDirectory, fileUsed, BareStream, zeroBare, bareUsed, bareAt, FileNo, StreamNo, File}, proofs.Laws.{refl, ap, and-iff, eqb-iff, beq-iff, guard-iff, same-iff, count-keep}}
 use Rattle.lists.proofs.Places.{used-below}
-use Rattle.lists.proofs.Same.{same-iff}
-use Rattle.lists.proofs.Keep.{count-keep}
-use Rattle.records.specs.Slots.{root, isUsed, isDirectory, fileUsed}
-use Rattle.tables.specs.Tables.{fileAt}
-use Rattle.records.specs.Namespace.{BareStream, zeroBare, bareUsed, bareAt}
-use Rattle.records.specs.declared.FileNo.{FileNo}
-use Rattle.records.specs.declared.StreamNo.{StreamNo}
-use Rattle.records.specs.declared.File.{File}
 use Rattle.stored_names.specs.StoredNames.{units}
-use Rattle.consistency.specs.Relations.{typeAt, streamOf, unnamedOf}
-use Rattle.consistency.specs.Slots.{EveryTwo}
-use Rattle.consistency.specs.Good.{goodStream, isZeroStream, streamNamesDiffer, StreamNamesDiffer}
-use Rattle.consistency.specs.Consistent.{GoodStreamOf, StreamsConsistent}
-use Rattle.consistency.specs.Test.{goodStreamOf, streamsOfFile, streamsTest}
-use Rattle.consistency.proofs.Slots.{Decides, slots-iff, two-iff}
-use Rattle.consistency.proofs.Relations.{stream-of-iff, unnamed-iff}
-use Rattle.consistency.proofs.Numbered.{same-file, unused, same-type, names-iff, directory-file, files-each}
+use Rattle.tables.specs.Tables.{fileAt}
+use Rattle.consistency.proofs.{Slots.{Decides, slots-iff, two-iff}, Relations.{stream-of-iff, unnamed-iff}, Numbered.{same-file, unused, same-type, names-iff, directory-file, files-each}}
+use Rattle.consistency.specs.{Relations.{typeAt, streamOf, unnamedOf}, Slots.EveryTwo, Good.{goodStream, isZeroStream, streamNamesDiffer, StreamNamesDiffer}, Consistent.{GoodStreamOf, StreamsConsistent}, Test.{goodStreamOf, streamsOfFile, streamsTest}}
 
 pub stream-decides : (fs : List File) → Decides bareUsed (goodStreamOf fs) isZeroStream zeroBare (GoodStreamOf fs)
 unfolding bareUsed isUsed goodStream isZeroStream same

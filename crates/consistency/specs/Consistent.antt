@@ -1,29 +1,10 @@
 -- Consistent tables (document 01: "Tables are sound when"), as statements: a record for each table, over those that it
 -- refers to, so that a change to one table leaves the other groups alone. Good has the clauses of a slot by itself and
 -- of two.
-use Prim.Native.Nat.{ℕ, _≤_, _<_}
-use mathlib.Core.Path.{_≡_}
-use mathlib.Core.Bool.{Bool, true, false}
-use mathlib.Core.List.{List}
-use mathlib.Core.Logic.{_≢_}
-use lib.ListN.{length, getD}
-use Rattle.lists.specs.Lists.{count}
-use Rattle.records.specs.Sizes.{fileSlots, linkSlots, streamSlots, openSlots}
-use Rattle.records.specs.Slots.{root, zeroFile, zeroLink, zeroOpen, isDirectory, fileUsed, linkUsed, openUsed}
-use Rattle.tables.specs.Tables.{fileAt, streamAt}
-use Rattle.records.specs.Namespace.{BareStream, zeroBare, bareUsed, bareAt, namespace}
-use Rattle.records.specs.declared.FileNo.{FileNo}
-use Rattle.records.specs.declared.StreamNo.{StreamNo}
-use Rattle.records.specs.declared.File.{File}
-use Rattle.records.specs.declared.Link.{Link}
-use Rattle.records.specs.declared.Stream.{Stream}
-use Rattle.records.specs.declared.Open.{Open}
-use Rattle.records.specs.declared.OpenTable.{OpenTable}
-use Rattle.records.specs.declared.Volume.{Volume}
+use Rattle.base.specs.Base.{ℕ, _≤_, _<_, _≡_, true, List, _≢_, length, getD, count, fileSlots, linkSlots, streamSlots, openSlots, root, zeroFile, zeroLink, zeroOpen, isDirectory, fileUsed, linkUsed, openUsed, BareStream, zeroBare, bareUsed, bareAt, namespace, FileNo, StreamNo, File, Link, Stream, Open, OpenTable, Volume}
 use Rattle.sharing.specs.Sharing.{countsOf}
-use Rattle.consistency.specs.Relations.{typeAt, linkTo, streamOf, unnamedOf, live, climb}
-use Rattle.consistency.specs.Slots.{Slots, EveryTwo}
-use Rattle.consistency.specs.Good.{GoodFile, GoodLink, LinkNamesDiffer, GoodStream, StreamNamesDiffer, GoodOpen, HandlesDiffer, OpensAgree}
+use Rattle.tables.specs.Tables.{fileAt, streamAt}
+use Rattle.consistency.specs.{Relations.{typeAt, linkTo, streamOf, unnamedOf, live, climb}, Slots.{Slots, EveryTwo}, Good.{GoodFile, GoodLink, LinkNamesDiffer, GoodStream, StreamNamesDiffer, GoodOpen, HandlesDiffer, OpensAgree}}
 
 pub record FilesConsistent (fs : List File) : Type 0 where
   pub slots : Slots fileUsed zeroFile GoodFile fileSlots fs

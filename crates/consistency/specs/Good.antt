@@ -1,26 +1,11 @@
 -- What a used slot of each table is by itself, and what two are to each other (document 01: "Tables are sound when"): a
 -- field for each clause, and the same as a test. What a slot asks of a record of another table stands beside it. And of a
 -- free slot, one without kind, link name or handle, the test that the rest is zero too.
-use Prim.Native.Nat.{ℕ, _≤_, _<_}
-use mathlib.Core.Path.{_≡_}
-use mathlib.Core.Bool.{Bool, true, false, not, Bool·beq, _&&_}
-use mathlib.Core.Logic.{_≢_}
-use lib.Dec.{eqb, leb, ltb}
-use lib.ListN.{replicate}
-use Rattle.bits.specs.Bits.{within, has}
-use Rattle.lists.specs.Lists.{same}
-use Rattle.records.specs.Sizes.{fileNameLimit, streamNameLimit, accounts}
-use Rattle.records.specs.Constants.{directory, fileAttributes, allAccess, shareAll}
-use Rattle.records.specs.Slots.{isUsed, isDirectory}
-use Rattle.records.specs.Namespace.{BareStream, bareUsed}
-use Rattle.records.specs.declared.FileType.{FileType}
-use Rattle.records.specs.declared.File.{File}
-use Rattle.records.specs.declared.Link.{Link}
-use Rattle.records.specs.Terms.{Terms, termsOf}
-use Rattle.records.specs.declared.Open.{Open}
+use Rattle.base.specs.Base.{ℕ, _≤_, _<_, _≡_, Bool, true, false, not, _&&_, _≢_, eqb, leb, ltb, replicate, within, has, same, fileNameLimit, streamNameLimit, accounts, directory, fileAttributes, allAccess, shareAll, isUsed, isDirectory, BareStream, bareUsed, FileType, File, Link, Terms, termsOf, Open}
+use mathlib.Core.Bool.{Bool·beq}
 use Rattle.names.specs.Names.{validFileName, validStreamName}
-use Rattle.stored_names.specs.StoredNames.{units, wellStored}
 use Rattle.sharing.specs.Sharing.{conflicting}
+use Rattle.stored_names.specs.StoredNames.{units, wellStored}
 use Rattle.consistency.specs.Relations.{validMasks}
 
 -- files: the attributes of a directory or of none; and with the masks

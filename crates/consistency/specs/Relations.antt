@@ -1,22 +1,7 @@
 -- How the tables refer to each other: links to files, streams to files, live opens, parents.
-use Prim.Native.Nat.{ℕ, zero, suc}
-use mathlib.Core.Bool.{Bool, true, false, cond, _&&_}
-use mathlib.Core.List.{List, [], _∷_}
-use lib.Dec.{eqb}
-use lib.ListN.{length}
-use Rattle.bits.specs.Bits.{within}
-use Rattle.lists.specs.Lists.{all, keep, isEmpty}
-use Rattle.records.specs.Sizes.{accounts}
-use Rattle.records.specs.Constants.{allAccess}
-use Rattle.records.specs.Slots.{linkUsed, openUsed}
-use Rattle.tables.specs.Tables.{fileAt}
-use Rattle.records.specs.Namespace.{BareStream, bareUsed}
-use Rattle.records.specs.declared.FileType.{FileType}
-use Rattle.records.specs.declared.FileNo.{FileNo}
-use Rattle.records.specs.declared.File.{File}
-use Rattle.records.specs.declared.Link.{Link}
-use Rattle.records.specs.declared.Open.{Open}
+use Rattle.base.specs.Base.{ℕ, zero, suc, Bool, true, false, _&&_, List, [], _∷_, eqb, length, within, all, keep, isEmpty, accounts, allAccess, linkUsed, openUsed, BareStream, bareUsed, FileType, FileNo, File, Link, Open}
 use Rattle.stored_names.specs.StoredNames.{units}
+use Rattle.tables.specs.Tables.{fileAt}
 
 -- the type of the file at a number
 abbrev pub typeAt : List File → FileNo → FileType

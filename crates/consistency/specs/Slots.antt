@@ -1,11 +1,5 @@
 -- The slots of a table: as many as it holds, free ones all zero, used ones good, whatever a table asks of those.
-use Prim.Native.Nat.{ℕ, _<_}
-use mathlib.Core.Path.{_≡_}
-use mathlib.Core.Bool.{Bool, true, false, cond, _&&_}
-use mathlib.Core.List.{List}
-use lib.Dec.{eqb}
-use lib.ListN.{length, getD}
-use Rattle.lists.specs.Lists.{all}
+use Rattle.base.specs.Base.{ℕ, _<_, _≡_, Bool, true, false, cond, _&&_, List, eqb, length, getD, all}
 
 pub record Slots {A : Type 0} (used : A → Bool) (zero : A) (Good : A → Type 0) (n : ℕ) (xs : List A) : Type 0 where
   pub size : length xs ≡ n

@@ -1,25 +1,7 @@
 -- Consistency as a test that computes. proofs/ shows that it answers true exactly when the tables are Consistent.
-use Prim.Native.Nat.{ℕ}
-use mathlib.Core.Bool.{Bool, true, false, cond, not, _&&_, _||_}
-use mathlib.Core.List.{List}
-use lib.Dec.{eqb, leb}
-use Rattle.lists.specs.Lists.{allFrom, count, keep, pairs}
-use Rattle.records.specs.Sizes.{fileSlots, linkSlots, streamSlots, openSlots}
-use Rattle.records.specs.Slots.{root, isDirectory, fileUsed, linkUsed, openUsed}
-use Rattle.records.specs.Namespace.{BareStream, bareUsed, bareAt, namespace}
-use Rattle.records.specs.declared.FileNo.{FileNo}
-use Rattle.records.specs.declared.StreamNo.{StreamNo}
-use Rattle.records.specs.declared.File.{File}
-use Rattle.records.specs.declared.Link.{Link}
-use Rattle.records.specs.declared.ShareCounts.{ShareCounts}
-use Rattle.records.specs.declared.Stream.{Stream}
-use Rattle.records.specs.declared.Open.{Open}
-use Rattle.records.specs.declared.OpenTable.{OpenTable}
-use Rattle.records.specs.declared.Volume.{Volume}
+use Rattle.base.specs.Base.{ℕ, Bool, cond, not, _&&_, _||_, List, eqb, leb, allFrom, count, keep, pairs, fileSlots, linkSlots, streamSlots, openSlots, root, isDirectory, fileUsed, linkUsed, openUsed, BareStream, bareUsed, bareAt, namespace, FileNo, File, Link, ShareCounts, Stream, Open, OpenTable, Volume}
 use Rattle.sharing.specs.Sharing.{countsOf}
-use Rattle.consistency.specs.Relations.{typeAt, linkTo, streamOf, unnamedOf, live, reaches}
-use Rattle.consistency.specs.Slots.{slotsTest}
-use Rattle.consistency.specs.Good.{goodFile, isZeroFile, goodLink, isZeroLink, linkNamesDiffer, goodStream, isZeroStream, streamNamesDiffer, goodOpen, isZeroOpen, handlesDiffer, opensAgree}
+use Rattle.consistency.specs.{Relations.{typeAt, linkTo, streamOf, unnamedOf, live, reaches}, Slots.slotsTest, Good.{goodFile, isZeroFile, goodLink, isZeroLink, linkNamesDiffer, goodStream, isZeroStream, streamNamesDiffer, goodOpen, isZeroOpen, handlesDiffer, opensAgree}}
 
 -- files
 

@@ -1,23 +1,10 @@
 -- Format gives consistent tables.
-use Prim.Native.Nat.{ℕ}
-use mathlib.Core.Path.{_≡_, refl, ap}
-use mathlib.Core.Bool.{Bool, true, _&&_}
-use mathlib.Core.List.{List}
-use Rattle.bits.specs.Bits.{within, has}
-use Rattle.lists.specs.Lists.{all, allFrom, count, keep, pairs, isEmpty, same, padded}
-use Rattle.lists.proofs.Tests.{and-both}
-use Rattle.records.specs.Slots.{isUsed, isDirectory, fileUsed, linkUsed, openUsed}
-use Rattle.tables.specs.Tables.{fileAt}
-use Rattle.records.specs.Namespace.{bare, bareUsed, bareAt, namespace}
+use Rattle.base.{specs.Base.{ℕ, _≡_, Bool, true, _&&_, List, within, has, all, allFrom, count, keep, pairs, isEmpty, same, padded, isUsed, isDirectory, fileUsed, linkUsed, openUsed, bare, bareUsed, bareAt, namespace}, proofs.Laws.{refl, ap, and-both}}
+use Rattle.consistency.{specs.{Relations.{validMasks, linkTo, streamOf, unnamedOf, live, parentOf, reaches}, Slots.slotsTest, Good.{goodFile, isZeroFile, goodLink, isZeroLink, goodStream, isZeroStream, goodOpen, isZeroOpen, linkNamesDiffer, streamNamesDiffer, handlesDiffer, opensAgree}, Test.{filesTest, linksOfFile, linksTest, streamsOfFile, streamsTest, opensTest, sameCounts, countsTest, conflictsTest, consistent}, Consistent.Consistent}, proofs.Equivalence.consistent-iff}
 use Rattle.names.specs.Names.{validUnit, validFileName, validStreamName}
-use Rattle.stored_names.specs.StoredNames.{units, wellStored}
 use Rattle.sharing.specs.Sharing.{onStream, countsOf, countsOfAll}
-use Rattle.consistency.specs.Relations.{validMasks, linkTo, streamOf, unnamedOf, live, parentOf, reaches}
-use Rattle.consistency.specs.Slots.{slotsTest}
-use Rattle.consistency.specs.Good.{goodFile, isZeroFile, goodLink, isZeroLink, goodStream, isZeroStream, goodOpen, isZeroOpen, linkNamesDiffer, streamNamesDiffer, handlesDiffer, opensAgree}
-use Rattle.consistency.specs.Test.{filesTest, linksOfFile, linksTest, streamsOfFile, streamsTest, opensTest, sameCounts, countsTest, conflictsTest, consistent}
-use Rattle.consistency.specs.Consistent.{Consistent}
-use Rattle.consistency.proofs.Equivalence.{consistent-iff}
+use Rattle.stored_names.specs.StoredNames.{units, wellStored}
+use Rattle.tables.specs.Tables.{fileAt}
 use Rattle.format.specs.Format.{rootFile, freshVolume, freshOpens}
 
 -- what the tests compute with

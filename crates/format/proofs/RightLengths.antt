@@ -1,25 +1,11 @@
 -- Tables by value have the right lengths, and so have the arrays in their records: their types say so.
-use mathlib.Core.Path.{_≡_}
-use mathlib.Core.Bool.{true}
-use mathlib.Core.List.{List}
-use native.Mathlib.Omega.{arith}
-use lib.Dec.{eqb}
-use lib.ListN.{length, getD}
-use mir.Val.{Val}
+use Rattle.base.{specs.Base.{_≡_, true, List, eqb, length, getD, all, fileSlots, linkSlots, streamSlots, openSlots, fileNameLimit, streamNameLimit, accounts, zeroFile, zeroLink, zeroStream, Volume, OpenTable}, proofs.Laws.{arith, eq-eqb, and-both, all-of}}
 use denote.Laws.{Is}
-use borrow.Author.Tests.{eq-eqb}
-use Rattle.lists.specs.Lists.{all}
-use Rattle.lists.proofs.Tests.{and-both}
-use Rattle.lists.proofs.All.{all-of}
-use Rattle.records.specs.Sizes.{fileSlots, linkSlots, streamSlots, openSlots, fileNameLimit, streamNameLimit, accounts}
-use Rattle.records.specs.Slots.{zeroFile, zeroLink, zeroStream}
-use Rattle.records.specs.declared.Volume.{Volume}
-use Rattle.records.specs.declared.OpenTable.{OpenTable}
-use Rattle.records.proofs.Lengths.{masks-length, link-name-length, stream-name-length, files-length, links-length, streams-length, rows-length}
-use Rattle.records.proofs.Elements.{file-holds, link-holds, stream-holds}
+use mir.Val.{Val}
+use Rattle.records.proofs.{Lengths.{masks-length, link-name-length, stream-name-length, files-length, links-length, streams-length, rows-length}, Elements.{file-holds, link-holds, stream-holds}}
+use Rattle.format.specs.Format.{rightLengths}
 use Rattle.records.proofs.Volume as VolumeT
 use Rattle.records.proofs.OpenTable as OpenTableT
-use Rattle.format.specs.Format.{rightLengths}
 
 module _ (v : Volume) (vs : List Val) (good : Is VolumeT.the-row v vs) where
   all-masks : all (λ f. eqb (length (f .masks)) accounts) (v .files) ≡ true

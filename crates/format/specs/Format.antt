@@ -1,21 +1,5 @@
 -- Format: eight masks and a read-only mark make fresh tables. It needs right lengths, tested before the masks.
-use Prim.Native.Nat.{ℕ}
-use mathlib.Core.Bool.{Bool, true, false, not, _&&_}
-use mathlib.Core.List.{List}
-use lib.Dec.{eqb}
-use lib.ListN.{length, replicate, set}
-use Rattle.lists.specs.Lists.{all}
-use Rattle.records.specs.Sizes.{fileSlots, linkSlots, streamSlots, openSlots, fileNameLimit, streamNameLimit, accounts}
-use Rattle.records.specs.Constants.{directory}
-use Rattle.records.specs.Slots.{root, zeroFile, zeroLink, zeroCounts, zeroStream, zeroOpen}
-use Rattle.records.specs.Checked.{Checked, passed, _>>_, refuseIf}
-use Rattle.records.specs.State.{Tables, Step, done, concluded}
-use Rattle.records.specs.declared.Status.the-variants.{FileCorruptError, InvalidParameter}
-use Rattle.records.specs.declared.FileType.the-variants.{Directory}
-use Rattle.records.specs.declared.File.{File}
-use Rattle.records.specs.declared.Stream.{Stream}
-use Rattle.records.specs.declared.Volume.{Volume}
-use Rattle.records.specs.declared.OpenTable.{OpenTable}
+use Rattle.base.specs.Base.{ℕ, Bool, not, _&&_, List, eqb, length, replicate, set, all, fileSlots, linkSlots, streamSlots, openSlots, fileNameLimit, streamNameLimit, accounts, directory, root, zeroFile, zeroLink, zeroCounts, zeroStream, zeroOpen, Checked, passed, _>>_, refuseIf, Tables, Step, done, concluded, FileCorruptError, InvalidParameter, Directory, File, Stream, Volume, OpenTable}
 use Rattle.consistency.specs.Relations.{validMasks}
 
 -- "lengths are as above": of the tables, and of the arrays in their records

@@ -1,12 +1,6 @@
 -- The lowest free slot of each table of the volume, from a place on (step 12).
-use Prim.Native.Nat.{ℕ}
-use mathlib.Core.Option.{Option, none, some}
-use Rattle.lists.specs.Lists.{firstFree}
-use Rattle.records.specs.Slots.{fileUsed, linkUsed, streamUsed}
-use Rattle.records.specs.declared.Volume.{Volume}
-use Rattle.free_slots.specs.declared.FileSlot.{FileSlot}
-use Rattle.free_slots.specs.declared.LinkSlot.{LinkSlot}
-use Rattle.free_slots.specs.declared.StreamSlot.{StreamSlot}
+use Rattle.base.specs.Base.{ℕ, Option, none, some, firstFree, fileUsed, linkUsed, streamUsed, Volume}
+use Rattle.free_slots.specs.declared.{FileSlot.FileSlot, LinkSlot.LinkSlot, StreamSlot.StreamSlot}
 
 -- the place that a search finds, as the code answers it
 unfoldable pub fileSlot : Option ℕ → FileSlot

@@ -1,15 +1,10 @@
 -- Every element passes.
 use Prim.Native.Nat.{ℕ, zero, suc, _+_, _≤_, _<_}
-use mathlib.Core.Path.{_≡_, refl, sym, _∙_, ap, ap₂}
-use mathlib.Core.Bool.{Bool, true, false, not, _&&_}
-use mathlib.Core.List.{List, [], _∷_, map}
-use native.Mathlib.Numerals.{add-one}
-use native.Mathlib.Omega.{arith}
-use lib.ListN.{length, getD, drop, drop-of-length-le}
-use lib.Seq.{drop-cons}
+use lib.{ListN.{length, getD, drop, drop-of-length-le}, Seq.drop-cons}
+use mathlib.Core.{Path.{_≡_, refl, sym, _∙_, ap, ap₂}, Bool.{Bool, true, false, not, _&&_}, List.{List, [], _∷_, map}}
+use native.Mathlib.{Numerals.add-one, Omega.arith}
+use Rattle.lists.proofs.{Tests.{by-cases, not-both, not-is, and-left, and-right, and-both}, Places.{used-below, drop-next}}
 use Rattle.lists.specs.Lists.{all, allFrom}
-use Rattle.lists.proofs.Tests.{by-cases, not-both, not-is, and-left, and-right, and-both}
-use Rattle.lists.proofs.Places.{used-below, drop-next}
 
 -- at each place
 module _ {A : Type 0} (p : A → Bool) (d : A) where

@@ -1,14 +1,10 @@
 -- Some element passes.
 use Prim.Native.Nat.{ℕ, zero, suc, _+_, _≤_, _<_}
-use mathlib.Core.Path.{_≡_, refl, _∙_, ap, ap₂}
-use mathlib.Core.Bool.{Bool, true, false, _&&_, _||_, false≢true}
-use mathlib.Core.List.{List, [], _∷_}
-use mathlib.Core.Logic.{⊎-elim}
-use native.Mathlib.Omega.{arith}
 use lib.ListN.{length, getD, drop, drop-of-length-le}
+use mathlib.Core.{Path.{_≡_, refl, _∙_, ap, ap₂}, Bool.{Bool, true, false, _&&_, _||_, false≢true}, List.{List, [], _∷_}, Logic.⊎-elim}
+use native.Mathlib.Omega.{arith}
+use Rattle.lists.proofs.{Tests.{refuted, not-both, or-cases, or-left, or-right, or-neither}, Places.drop-next}
 use Rattle.lists.specs.Lists.{any}
-use Rattle.lists.proofs.Tests.{refuted, not-both, or-cases, or-left, or-right, or-neither}
-use Rattle.lists.proofs.Places.{drop-next}
 
 -- at a place
 module _ {A : Type 0} (p : A → Bool) (d : A) where

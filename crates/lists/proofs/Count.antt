@@ -1,17 +1,11 @@
 -- How many elements pass.
 use Prim.Native.Nat.{ℕ, suc, _+_, _≤_, _<_}
-use mathlib.Core.Path.{_≡_, refl, sym, _∙_, ap}
-use mathlib.Core.Bool.{Bool, true, false, cond, not, _&&_}
-use mathlib.Core.List.{List, [], _∷_, _++_, map}
-use native.Mathlib.Numerals.{add-one}
-use native.Mathlib.Omega.{arith}
-use lib.Dec.{eqb, ltb}
-use lib.ListN.{length, getD, take}
-use lib.Seq.{take-suc}
 use borrow.Author.Tests.{eqb-true, eqb-false, ne-eqb, lt-ltb, le-ltb, not-false}
+use lib.{Dec.{eqb, ltb}, ListN.{length, getD, take}, Seq.take-suc}
+use mathlib.Core.{Path.{_≡_, refl, sym, _∙_, ap}, Bool.{Bool, true, false, not, _&&_}, List.{List, [], _∷_, _++_, map}}
+use native.Mathlib.{Numerals.add-one, Omega.arith}
+use Rattle.lists.proofs.{Tests.{by-cases, refuted, one}, Any.none-of}
 use Rattle.lists.specs.Lists.{any, count}
-use Rattle.lists.proofs.Tests.{by-cases, refuted, one}
-use Rattle.lists.proofs.Any.{none-of}
 
 -- one element more
 module _ {A : Type 0} (p : A → Bool) (x : A) (xs : List A) where

@@ -1,23 +1,16 @@
 -- The first place that passes, and the first element.
-use Prim.Native.Nat.{ℕ, zero, suc, _+_, _-_, _≤_, _<_}
-use mathlib.Core.Path.{_≡_, refl, sym, _∙_, ap}
-use mathlib.Core.Bool.{Bool, true, false, not, _&&_, false≢true, and-comm}
-use mathlib.Core.List.{List, [], _∷_, map}
-use mathlib.Core.Option.{Option, none, some, Option·some-injective}
-use native.Mathlib.Numerals.{add-one}
-use native.Mathlib.Omega.{arith}
-use lib.ListN.{length, getD, drop, drop-of-length-le, length-drop}
-use lib.Seq.{drop-cons, getD-drop}
+use Prim.Native.Nat.{ℕ, suc, _+_, _≤_, _<_}
+use lib.{ListN.{length, getD, drop, drop-of-length-le, length-drop}, Seq.{drop-cons, getD-drop}}
+use mathlib.Core.{Path.{_≡_, refl, sym, _∙_, ap}, Bool.{Bool, true, false, not, _&&_, false≢true, and-comm}, List.{List, [], _∷_, map}, Option.{Option, none, some, Option·some-injective}}
+use native.Mathlib.{Numerals.add-one, Omega.arith}
+use Rattle.lists.proofs.{Tests.{none≢some, by-cases, and-left, and-right, excluded}, Permutations.perm-pairs}
 use Rattle.lists.specs.Lists.{all, any, keep, pairs, firstFrom, first, firstAfter, find, Permutation, nil, skip, swap, both}
-use Rattle.lists.proofs.Tests.{none≢some, by-cases, and-left, and-right, excluded}
-use Rattle.lists.proofs.Permutations.{perm-pairs}
 
--- a place that a search finds: below the length, it passes, and no lower one from the start of the search does
+-- a place that a search finds: from the start of the search on, below the length, and it passes
 pub record Found {A : Type 0} (p : A → Bool) (xs : List A) (d : A) (n : ℕ) (k : ℕ) : Type 0 where
   pub from : n ≤ k
   pub below : k < length xs
   pub passes : p (getD xs k d) ≡ true
-  pub lowest : (i : ℕ) → n ≤ i → i < k → p (getD xs i d) ≡ false
 
 module _ {A : Type 0} (p : A → Bool) where
   -- by the first element
@@ -35,26 +28,17 @@ module _ {A : Type 0} (p : A → Bool) where
     from-found : (xs : List A) (at k : ℕ) → firstFrom p xs at ≡ some k → (j : ℕ) × (k ≡ at + j) × Found p xs d 0 j
     unfolding firstFrom
     from-found [] at k h = absurd (none≢some h)
-    from-found (x ∷ xs) at k h = by-cases (p x) first-passes (λ e. later e (from-found xs (suc at) k (sym (next x xs at e) ∙ h)))
-      where
-        first-passes : p x ≡ true → (j : ℕ) × (k ≡ at + j) × Found p (x ∷ xs) d 0 j
-        first-passes e =
-            let z = Option·some-injective at k (sym (here x xs at e) ∙ h) in (
-              0,
-              omega arith,
-              record { from = omega arith; below = omega arith; passes = e; lowest = λ i a b. absurd (let w : ⊥ = omega arith in w) },
-            )
-
-        later : p x ≡ false → (j : ℕ) × (k ≡ suc at + j) × Found p xs d 0 j → (j : ℕ) × (k ≡ at + j) × Found p (x ∷ xs) d 0 j
-        later e q = (
+    from-found (x ∷ xs) at k h =
+        by-cases (p x)
+        (λ e.
+        let z = Option·some-injective at k (sym (here x xs at e) ∙ h) in
+        (0, omega arith, record { from = omega arith; below = omega arith; passes = e }))
+        (λ e.
+        let q = from-found xs (suc at) k (sym (next x xs at e) ∙ h) in (
           suc (q .0),
           omega (arith, q .1),
-          record { from = omega arith; below = omega (arith, q .2 .below); passes = q .2 .passes; lowest = lower },
-        )
-          where
-            lower : (i : ℕ) → 0 ≤ i → i < suc (q .0) → p (getD (x ∷ xs) i d) ≡ false
-            lower zero a b = e
-            lower (suc i) a b = q .2 .lowest i (omega arith) (omega arith)
+          record { from = omega arith; below = omega (arith, q .2 .below); passes = q .2 .passes },
+        ))
 
     pub after-found : (xs : List A) (n k : ℕ) → firstAfter p n xs ≡ some k → Found p xs d n k
     unfolding firstAfter
@@ -65,10 +49,6 @@ module _ {A : Type 0} (p : A → Bool) where
           from = omega (arith, q .1);
           below = omega (arith, q .1, f .below, length-drop n xs);
           passes = rw (q .1, ← getD-drop n xs (q .0) d) (f .passes);
-          lowest =
-              λ i a b.
-              let e : i ≡ n + (i - n) = omega arith in
-              ap (λ (m : ℕ). p (getD xs m d)) e ∙ rw (← getD-drop n xs (i - n) d) (f .lowest (i - n) (omega arith) (omega (arith, q .1)));
         }
 
     pub first-found : (xs : List A) (k : ℕ) → first p xs ≡ some k → Found p xs d 0 k

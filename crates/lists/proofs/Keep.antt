@@ -1,14 +1,10 @@
 -- The elements that pass.
-use Prim.Native.Nat.{ℕ, suc, _+_, _≤_, _<_}
-use mathlib.Core.Path.{_≡_, refl, sym, _∙_, ap}
-use mathlib.Core.Bool.{Bool, true, false, not, _&&_, _||_}
-use mathlib.Core.List.{List, [], _∷_, _++_, map}
-use lib.ListN.{length, getD, drop, drop-of-length-le}
+use Prim.Native.Nat.{ℕ, _+_, _≤_, _<_}
 use borrow.Author.Tests.{not-true}
+use lib.ListN.{length, getD, drop, drop-of-length-le}
+use mathlib.Core.{Path.{_≡_, refl, sym, _∙_, ap}, Bool.{Bool, true, false, not, _&&_, _||_}, List.{List, [], _∷_, _++_, map}}
+use Rattle.lists.proofs.{Tests.{by-cases, not-both, not-is, excluded, excludes, or-neither}, Places.{used-below, drop-next}, Any.{any-fails, none-of}}
 use Rattle.lists.specs.Lists.{all, any, count, keep}
-use Rattle.lists.proofs.Tests.{by-cases, not-both, not-is, excluded, excludes, or-neither}
-use Rattle.lists.proofs.Places.{used-below, drop-next}
-use Rattle.lists.proofs.Any.{any-fails, none-of}
 
 -- one element more
 module _ {A : Type 0} (p : A → Bool) (x : A) (xs : List A) where

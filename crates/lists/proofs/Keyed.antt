@@ -1,19 +1,12 @@
 -- Noted by key in one pass: a table has for each key what the elements passed so far say of it. An element that passes a
 -- test says something of its own key alone, so that one more element changes the table at its key, if at all.
 use Prim.Native.Nat.{ℕ, _+_, _-_, _≤_, _<_}
-use mathlib.Core.Path.{_≡_, refl, sym, _∙_, ap}
-use mathlib.Core.Bool.{Bool, true, false, _&&_, and-false}
-use mathlib.Core.List.{List, _∷_}
-use mathlib.Core.Logic.{_⊎_, ⊎-elim}
-use native.Mathlib.Omega.{arith}
-use lib.Dec.{eqb}
-use lib.ListN.{length, getD, set, take, drop}
 use borrow.Author.Tests.{eq-eqb, ne-eqb}
+use lib.{Dec.eqb, ListN.{length, getD, set, take, drop}}
+use mathlib.Core.{Path.{_≡_, refl, sym, _∙_, ap}, Bool.{Bool, true, false, _&&_, and-false}, List.{List, _∷_}, Logic.{_⊎_, ⊎-elim}}
+use native.Mathlib.Omega.{arith}
+use Rattle.lists.proofs.{Tests.{and-both, one}, Places.drop-back, Count.count-next, Set.set-cases}
 use Rattle.lists.specs.Lists.{count}
-use Rattle.lists.proofs.Tests.{and-both, one}
-use Rattle.lists.proofs.Places.{drop-back}
-use Rattle.lists.proofs.Count.{count-next}
-use Rattle.lists.proofs.Set.{set-cases}
 
 -- `table` has at each of `size` keys what is said of it
 abbrev pub Noted : {T : Type 0} → T → ℕ → List T → (ℕ → T) → Type 0

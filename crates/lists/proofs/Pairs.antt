@@ -1,14 +1,10 @@
 -- Every element passes against every later one.
 use Prim.Native.Nat.{ℕ, zero, suc, _+_, _≤_, _<_}
-use mathlib.Core.Path.{_≡_, refl, sym, _∙_, ap, ap₂}
-use mathlib.Core.Bool.{Bool, true, false, not, _&&_, _||_}
-use mathlib.Core.List.{List, [], _∷_, map}
-use native.Mathlib.Omega.{arith}
 use lib.ListN.{length, getD, drop}
+use mathlib.Core.{Path.{_≡_, refl, sym, _∙_, ap, ap₂}, Bool.{Bool, true, not, _&&_, _||_}, List.{List, [], _∷_, map}}
+use native.Mathlib.Omega.{arith}
+use Rattle.lists.proofs.{Tests.{by-cases, and-left, and-right, and-both, guarded, guard}, All.{all-at, all-of, all-map}, Keep.{all-keep, kept-here, kept-end}}
 use Rattle.lists.specs.Lists.{all, pairs, keep}
-use Rattle.lists.proofs.Tests.{by-cases, and-left, and-right, and-both, guarded, guard}
-use Rattle.lists.proofs.All.{all-at, all-of, all-map}
-use Rattle.lists.proofs.Keep.{all-keep, kept-here, kept-end}
 
 -- at every two places
 module _ {A : Type 0} (r : A → A → Bool) (d : A) where

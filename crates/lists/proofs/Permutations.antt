@@ -1,15 +1,10 @@
 -- A list in another order: what does not depend on it.
-use Prim.Native.Nat.{ℕ, zero, suc, _+_, _<_}
-use mathlib.Core.Path.{_≡_, refl, sym, _∙_, ap, ap₂, subst}
-use mathlib.Core.Bool.{Bool, true, false, not, _&&_}
-use mathlib.Core.List.{List, [], _∷_}
+use Prim.Native.Nat.{ℕ, zero, suc, _<_}
+use lib.{Dec.eqb, ListN.{length, getD, set}}
+use mathlib.Core.{Path.{_≡_, refl, sym, _∙_, ap, ap₂, subst}, Bool.{Bool, true, false, not, _&&_}, List.{List, [], _∷_}}
 use native.Mathlib.Omega.{arith}
-use lib.Dec.{eqb}
-use lib.ListN.{length, getD, set}
+use Rattle.lists.proofs.{Tests.{by-cases, and-swap, and-exchange}, Count.count-some, Keep.{keep-yes, keep-no, length-keep}}
 use Rattle.lists.specs.Lists.{all, any, count, keep, pairs, Permutation, nil, skip, swap, both}
-use Rattle.lists.proofs.Tests.{by-cases, and-swap, and-exchange}
-use Rattle.lists.proofs.Count.{count-some}
-use Rattle.lists.proofs.Keep.{keep-yes, keep-no, length-keep}
 
 module _ {A : Type 0} where
   pub perm-refl : (xs : List A) → Permutation xs xs

@@ -1,11 +1,9 @@
 -- A function that gives k different numbers below n: k is at most n. And the least number that passes a test.
 use Prim.Native.Nat.{ℕ, zero, suc, _≤_, _<_}
-use mathlib.Core.Path.{_≡_, refl, sym, _∙_}
-use mathlib.Core.Bool.{Bool, true, false, cond}
-use mathlib.Core.Logic.{_≢_}
-use native.Mathlib.Omega.{arith}
-use lib.Dec.{eqb}
 use borrow.Author.Tests.{eqb-true, eqb-false}
+use lib.Dec.{eqb}
+use mathlib.Core.{Path.{_≡_, sym, _∙_}, Bool.{Bool, true, false, cond}, Logic._≢_}
+use native.Mathlib.Omega.{arith}
 use Rattle.lists.proofs.Tests.{by-cases, cond-true, cond-false}
 
 -- where one of them gives the largest number n, the last gives its own in its place

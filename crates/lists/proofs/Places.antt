@@ -1,12 +1,8 @@
 -- A list by its places: `getD xs i d` is the element at place i, and d past the end; `drop i xs` is what is left there.
 use Prim.Native.Nat.{ℕ, zero, suc, _+_, _-_, _≤_, _<_}
-use mathlib.Core.Path.{_≡_, refl, ap, _∙_}
-use mathlib.Core.Bool.{Bool, true, false}
-use mathlib.Core.List.{List, [], _∷_}
-use native.Mathlib.Numerals.{add-one}
-use native.Mathlib.Omega.{arith}
-use lib.ListN.{length, getD, drop}
-use lib.Seq.{drop-cons}
+use lib.{ListN.{length, getD, drop}, Seq.drop-cons}
+use mathlib.Core.{Path.{_≡_, refl, ap, _∙_}, Bool.{Bool, true, false}, List.{List, [], _∷_}}
+use native.Mathlib.{Numerals.add-one, Omega.arith}
 use Rattle.lists.proofs.Tests.{not-both}
 
 -- Below a list's length the default does not matter. A record that the code read out of an array has the logic's own

@@ -1,15 +1,10 @@
 -- Two lists of numbers are the same.
-use Prim.Native.Nat.{ℕ, suc, _+_, _≤_, _<_}
-use mathlib.Core.Path.{_≡_, refl, sym, _∙_, ap, ap₂}
-use mathlib.Core.Bool.{true, false, false≢true}
-use mathlib.Core.List.{List, [], _∷_, _++_}
-use mathlib.Core.Logic.{_↔_}
-use lib.Dec.{eqb}
-use lib.ListN.{length, getD, drop, drop-of-length-le}
+use Prim.Native.Nat.{ℕ, _+_, _≤_, _<_}
 use borrow.Author.Tests.{eq-eqb, ne-eqb, eqb-true}
+use lib.{Dec.eqb, ListN.{length, getD, drop, drop-of-length-le}}
+use mathlib.Core.{Path.{_≡_, refl, sym, _∙_, ap, ap₂}, Bool.{true, false, false≢true}, List.{List, [], _∷_, _++_}, Logic._↔_}
+use Rattle.lists.proofs.{Tests.{refuted, and-left, and-right, and-both}, Places.drop-next}
 use Rattle.lists.specs.Lists.{same, isEmpty}
-use Rattle.lists.proofs.Tests.{refuted, and-left, and-right, and-both}
-use Rattle.lists.proofs.Places.{drop-next}
 
 pub same-is : (xs ys : List ℕ) → same xs ys ≡ true → xs ≡ ys
 unfolding same

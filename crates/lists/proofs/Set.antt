@@ -1,17 +1,10 @@
 -- One place of a list set.
 use Prim.Native.Nat.{ℕ, zero, suc, _+_, _<_}
-use mathlib.Core.Path.{_≡_, refl, sym, _∙_, ap, subst}
-use mathlib.Core.Bool.{Bool, true, false}
-use mathlib.Core.List.{List, [], _∷_, map}
-use mathlib.Core.Logic.{_⊎_, inl, inr, ⊎-elim}
-use native.Mathlib.Decide.{ℕ-discrete, decLt}
-use native.Mathlib.Omega.{arith}
-use lib.ListN.{length, getD, set}
-use lib.Seq.{lt-length-set, set-out, getD-set-same, getD-set-other}
+use lib.{ListN.{length, getD, set}, Seq.{lt-length-set, set-out, getD-set-same, getD-set-other}}
+use mathlib.Core.{Path.{_≡_, refl, sym, _∙_, ap}, Bool.{Bool, true, false}, List.{List, [], _∷_, map}, Logic.{_⊎_, inl, inr, ⊎-elim}}
+use native.Mathlib.{Decide.{ℕ-discrete, decLt}, Omega.arith}
+use Rattle.lists.proofs.{Tests.{not-both, one}, Count.count-add, Permutations.{perm-count, perm-set}}
 use Rattle.lists.specs.Lists.{count}
-use Rattle.lists.proofs.Tests.{not-both, one}
-use Rattle.lists.proofs.Count.{count-add}
-use Rattle.lists.proofs.Permutations.{perm-count, perm-set}
 
 -- what stands at place j when y is set at place i
 abbrev pub SetAt : {A : Type 0} → List A → ℕ → ℕ → A → A → Type 0

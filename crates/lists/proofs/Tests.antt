@@ -1,12 +1,9 @@
 -- Tests and the facts that they decide.
 use Prim.Native.Nat.{ℕ, _≤_}
-use mathlib.Core.Path.{_≡_, refl, sym, _∙_, ap, ap₂}
-use mathlib.Core.Bool.{Bool, true, false, not, cond, Bool·beq, _&&_, _||_, true≢false, false≢true}
-use mathlib.Core.Logic.{_↔_, _⊎_, inl, inr}
-use mathlib.Core.Option.{Option, none, some}
-use native.Mathlib.Omega.{arith}
-use lib.Dec.{eqb, leb}
 use borrow.Author.Tests.{eqb-true, eq-eqb, leb-true, le-leb, not-true}
+use lib.Dec.{eqb, leb}
+use mathlib.Core.{Path.{_≡_, refl, sym, _∙_, ap, ap₂}, Bool.{Bool, true, false, not, cond, Bool·beq, _&&_, _||_, true≢false, false≢true}, Logic.{_↔_, _⊎_, inl, inr}, Option.{Option, none, some}}
+use native.Mathlib.Omega.{arith}
 
 -- nothing is no value
 pub none≢some : {A : Type 0} {a : A} → Path (Option A) none (some a) → ⊥

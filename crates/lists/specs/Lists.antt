@@ -1,10 +1,7 @@
 -- What the rules ask of a table: a test on each record, a count, the lowest slot, each pair.
-use Prim.Native.Nat.{ℕ, zero, suc, _+_, _-_}
-use mathlib.Core.Bool.{Bool, true, false, not, cond, _&&_, _||_}
-use mathlib.Core.List.{List, [], _∷_, _++_}
-use mathlib.Core.Option.{Option, none, some}
-use lib.Dec.{eqb}
-use lib.ListN.{length, replicate, drop, set}
+use Prim.Native.Nat.{ℕ, suc, _-_}
+use lib.{Dec.eqb, ListN.{length, replicate, drop, set}}
+use mathlib.Core.{Bool.{Bool, true, false, not, cond, _&&_, _||_}, List.{List, [], _∷_, _++_}, Option.{Option, none, some}}
 
 module _ {A : Type 0} where
   -- every element passes

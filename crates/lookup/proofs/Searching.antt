@@ -1,19 +1,6 @@
 -- The search of a directory's links for a name, from the first slot on: what it finds is what the links from the present
 -- slot on give.
-use Prim.Native.Nat.{ℕ, _+_, _≤_, _<_}
-use mathlib.Core.Path.{_≡_, refl, _∙_}
-use mathlib.Core.Bool.{Bool, true, false}
-use mathlib.Core.List.{List}
-use mathlib.Core.Option.{none, some}
-use native.Mathlib.Omega.{arith}
-use lib.ListN.{length, getD}
-use Rattle.lists.specs.Lists.{first}
-use Rattle.lists.proofs.First.{answerFrom, answer-here, answer-next, answer-none}
-use Rattle.records.specs.Sizes.{linkSlots}
-use Rattle.records.specs.Namespace.{namespace}
-use Rattle.records.specs.declared.FileNo.{FileNo}
-use Rattle.records.specs.declared.Link.{Link}
-use Rattle.records.specs.declared.Volume.{Volume}
+use Rattle.base.{specs.Base.{ℕ, _+_, _≤_, _<_, _≡_, Bool, true, false, List, none, some, length, getD, first, linkSlots, namespace, FileNo, Link, Volume}, proofs.Laws.{refl, _∙_, arith, answerFrom, answer-here, answer-next, answer-none}}
 use Rattle.lookup.specs.Lookup.{linkMatches, linkNumber, findLink}
 
 module _ (v : Volume) (fold : Bool) (dir : FileNo) (name : List ℕ) where

@@ -1,35 +1,10 @@
 -- The walk at a place of the path before the last component: at its end, at a component that leads into a directory, and
 -- at one that does not.
-use Prim.Native.Nat.{ℕ, _≤_, _<_}
-use mathlib.Core.Path.{_≡_, refl, sym, ap, _∙_}
-use mathlib.Core.Bool.{Bool, true, false, cond}
-use mathlib.Core.List.{List, [], _∷_}
-use mathlib.Core.Option.{Option, none, some}
-use native.Mathlib.Omega.{arith}
-use lib.ListN.{length, getD, drop, List·getD-eq-default}
-use Rattle.lists.specs.Lists.{isEmpty}
-use Rattle.lists.proofs.Places.{getD-default}
-use Rattle.records.specs.Sizes.{fileSlots, linkSlots}
-use Rattle.records.specs.Slots.{root, zeroFile, zeroLink, isDirectory}
-use Rattle.tables.specs.Tables.{fileAt, linkAt}
-use Rattle.records.specs.Namespace.{Namespace, namespace}
-use Rattle.records.specs.Checked.{Refusal, Checked, refused, passed, refuse, _>>=_}
-use Rattle.records.specs.declared.Status.{Status}
-use Rattle.records.specs.declared.Status.the-variants.{ObjectPathNotFound}
-use Rattle.records.specs.declared.FileNo.{FileNo}
-use Rattle.records.specs.declared.LinkNo.{LinkNo}
-use Rattle.records.specs.declared.File.{File}
-use Rattle.records.specs.declared.Link.{Link}
-use Rattle.records.specs.declared.Volume.{Volume}
-use Rattle.components.specs.Components.{components}
-use Rattle.components.specs.Positions.{nextComponent, partOf}
-use Rattle.components.proofs.Places.{next-found, next-none}
+use Rattle.base.{specs.Base.{ℕ, _≤_, _<_, _≡_, Bool, true, false, cond, List, [], _∷_, Option, none, some, length, getD, drop, isEmpty, fileSlots, linkSlots, root, zeroFile, zeroLink, isDirectory, Namespace, namespace, Checked, refused, passed, refuse, _>>=_, Status, ObjectPathNotFound, FileNo, LinkNo, File, Link, Volume}, proofs.Laws.{refl, sym, ap, _∙_, arith, List·getD-eq-default, getD-default}}
+use Rattle.components.{specs.{Components.components, Positions.{nextComponent, partOf}}, proofs.Places.{next-found, next-none}}
 use Rattle.paths.specs.Paths.{Leaf}
-use Rattle.lookup.specs.Lookup.{findLink, stepInto, descend, Place, missing, foundRoot, foundBy, placeIn, locateLeaf, locate}
-use Rattle.lookup.specs.Answers.{lastStep, walkEnds, walkedFrom}
-use Rattle.lookup.specs.declared.walk.FoundFile.{FoundFile}
-use Rattle.lookup.specs.declared.walk.FoundFile.the-variants.{At, Missing}
-use Rattle.lookup.specs.declared.Walked.{Walked}
+use Rattle.tables.specs.Tables.{fileAt, linkAt}
+use Rattle.lookup.specs.{Lookup.{findLink, stepInto, descend, Place, missing, foundRoot, foundBy, placeIn, locateLeaf, locate}, Answers.{lastStep, walkEnds, walkedFrom}, declared.{walk.FoundFile.{FoundFile, the-variants.{At, Missing}}, Walked.Walked}}
 use Rattle.lookup.specs.declared.Walked.the-variants as End
 
 -- what the search for a component before the last finds: its link's file

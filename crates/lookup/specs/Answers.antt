@@ -1,22 +1,9 @@
 -- What the definitions answer, as the code's answers.
-use Prim.Native.Nat.{ℕ}
-use mathlib.Core.Bool.{Bool, false}
-use mathlib.Core.List.{List, []}
-use mathlib.Core.Option.{Option, none, some}
-use Rattle.records.specs.Namespace.{Namespace}
-use Rattle.records.specs.Checked.{Checked, refused, passed, refuse, _>>=_}
-use Rattle.records.specs.declared.FileNo.{FileNo}
-use Rattle.records.specs.declared.LinkNo.{LinkNo}
+use Rattle.base.specs.Base.{ℕ, Bool, List, Option, none, some, Namespace, Checked, refused, passed, refuse, _>>=_, FileNo, LinkNo}
 use Rattle.components.specs.Positions.{parentsOf}
-use Rattle.paths.specs.Paths.{Path, Leaf, noLeaf}
-use Rattle.paths.specs.Positions.{asLeaf, asPath}
-use Rattle.paths.specs.declared.LeafParts.{LeafParts}
-use Rattle.paths.specs.declared.ParsedPath.{ParsedPath}
-use Rattle.paths.specs.declared.ParsedPath.the-variants.{Invalid, Root, Named}
-use Rattle.lookup.specs.Lookup.{findLink, descend, Place, found, missing, foundRoot, locate}
-use Rattle.lookup.specs.declared.Located.{Located}
+use Rattle.paths.specs.{Paths.{Path, Leaf, noLeaf}, Positions.{asLeaf, asPath}, declared.{LeafParts.LeafParts, ParsedPath.{ParsedPath, the-variants.{Invalid, Root, Named}}}}
+use Rattle.lookup.specs.{Lookup.{findLink, descend, Place, found, missing, foundRoot, locate}, declared.{Located.Located, Walked.Walked}}
 use Rattle.lookup.specs.declared.Located.the-variants as Located
-use Rattle.lookup.specs.declared.Walked.{Walked}
 use Rattle.lookup.specs.declared.Walked.the-variants as End
 
 -- the walk's last step, in the directory that it came to

@@ -1,21 +1,9 @@
 -- Step 6: from a path to its file. The lowest matching slot wins.
-use Prim.Native.Nat.{ℕ}
-use mathlib.Core.Bool.{Bool, true, false, cond, _&&_}
-use mathlib.Core.List.{List, [], _∷_}
-use mathlib.Core.Option.{Option, none, some}
-use lib.Dec.{eqb}
-use Rattle.lists.specs.Lists.{first, isEmpty}
-use Rattle.records.specs.Slots.{root, isDirectory}
-use Rattle.tables.specs.Tables.{fileAt, linkAt}
-use Rattle.records.specs.Namespace.{Namespace}
-use Rattle.records.specs.Checked.{Checked, passed, refuse, _>>=_}
-use Rattle.records.specs.declared.Status.the-variants.{ObjectPathNotFound}
-use Rattle.records.specs.declared.FileNo.{FileNo}
-use Rattle.records.specs.declared.LinkNo.{LinkNo}
-use Rattle.records.specs.declared.Link.{Link}
-use Rattle.units.specs.Units.{equalUnits}
-use Rattle.stored_names.specs.StoredNames.{units}
+use Rattle.base.specs.Base.{ℕ, Bool, true, false, cond, _&&_, List, [], _∷_, Option, none, some, eqb, first, isEmpty, root, isDirectory, Namespace, Checked, passed, refuse, _>>=_, ObjectPathNotFound, FileNo, LinkNo, Link}
 use Rattle.paths.specs.Paths.{Path, Leaf}
+use Rattle.stored_names.specs.StoredNames.{units}
+use Rattle.tables.specs.Tables.{fileAt, linkAt}
+use Rattle.units.specs.Units.{equalUnits}
 
 -- a link of the directory whose name matches. A path's names are never empty, so no free slot matches one
 unfoldable pub linkMatches : Bool → FileNo → List ℕ → Link → Bool

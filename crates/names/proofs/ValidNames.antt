@@ -1,15 +1,5 @@
 -- Laws of valid units and names, as the code tests them.
-use Prim.Native.Nat.{ℕ, _≤_, _<_}
-use mathlib.Core.Path.{_≡_, refl}
-use mathlib.Core.Bool.{Bool, true, false, not, _&&_, _||_}
-use mathlib.Core.List.{List, [], _∷_}
-use mathlib.Core.Logic.{_⊎_, inl, inr}
-use native.Mathlib.Omega.{arith}
-use lib.Dec.{eqb, leb}
-use lib.ListN.{length, getD}
-use borrow.Author.Tests.{le-leb, lt-leb, ne-eqb, eqb-true, eqb-false}
-use Rattle.lists.specs.Lists.{all, any, isEmpty, oneOf, same}
-use Rattle.lists.proofs.Same.{same-lengths}
+use Rattle.base.{specs.Base.{ℕ, _≤_, _<_, _≡_, Bool, true, false, not, _&&_, _||_, List, [], _∷_, _⊎_, inl, inr, eqb, leb, length, getD, all, any, isEmpty, oneOf, same}, proofs.Laws.{refl, arith, le-leb, lt-leb, ne-eqb, eqb-true, eqb-false, same-lengths}}
 use Rattle.units.specs.Units.{dot}
 use Rattle.names.specs.Names.{validUnit, validFileName, validStreamName}
 

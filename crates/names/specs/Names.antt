@@ -1,10 +1,5 @@
 -- Which names are valid (step 4).
-use Prim.Native.Nat.{ℕ}
-use mathlib.Core.Bool.{Bool, not, _&&_}
-use mathlib.Core.List.{List, [], _∷_}
-use lib.Dec.{leb}
-use lib.ListN.{length}
-use Rattle.lists.specs.Lists.{all, isEmpty, oneOf, same}
+use Rattle.base.specs.Base.{ℕ, Bool, not, _&&_, List, [], _∷_, leb, length, all, isEmpty, oneOf, same}
 use Rattle.units.specs.Units.{backslash, colon, dot, forbidden}
 
 -- a unit that may stand in a name: not below 0x20, none of the forbidden signs, no separator

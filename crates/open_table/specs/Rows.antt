@@ -1,15 +1,5 @@
 -- The table of opens: a row by its place, the lowest free row (step 12), and whether a file has an open (step 10).
-use Prim.Native.Nat.{ℕ}
-use mathlib.Core.Bool.{Bool}
-use mathlib.Core.List.{List}
-use mathlib.Core.Option.{Option, none, some}
-use lib.Dec.{eqb}
-use lib.ListN.{getD}
-use Rattle.lists.specs.Lists.{any, firstFree, keep}
-use Rattle.records.specs.Slots.{openUsed, zeroOpen}
-use Rattle.records.specs.declared.FileNo.{FileNo}
-use Rattle.records.specs.declared.Open.{Open}
-use Rattle.records.specs.declared.OpenTable.{OpenTable}
+use Rattle.base.specs.Base.{ℕ, Bool, List, Option, none, some, eqb, getD, any, firstFree, keep, openUsed, zeroOpen, FileNo, Open, OpenTable}
 use Rattle.open_table.specs.declared.OpenSlot.{OpenSlot}
 
 -- past the table's end stands the record of a free row

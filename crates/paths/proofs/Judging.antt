@@ -1,20 +1,10 @@
 -- Laws of step 4 on the values found: the last component judged, the components in order, the path whole.
-use Prim.Native.Nat.{ℕ, _≤_, _<_}
-use mathlib.Core.Path.{_≡_, refl, ap}
-use mathlib.Core.Bool.{Bool, true, false, not, cond, _&&_}
-use mathlib.Core.List.{List, [], _∷_, _++_, append-nil, append-assoc}
-use mathlib.Core.Option.{Option, none, some}
-use lib.ListN.{length}
-use borrow.Author.Tests.{le-leb, lt-leb}
-use Rattle.records.specs.Sizes.{fileNameLimit, streamNameLimit, pathLimit}
-use Rattle.records.specs.Checked.{Checked, refused, passed, refuse, _>>=_, _>>_, refuseIf}
-use Rattle.records.specs.declared.Status.the-variants.{ObjectNameInvalid}
-use Rattle.units.specs.Units.{backslash, colon}
-use Rattle.lists.specs.Lists.{isEmpty}
-use Rattle.names.specs.Names.{validFileName, validStreamName}
+use Rattle.base.{specs.Base.{ℕ, _≤_, _<_, _≡_, Bool, true, false, not, cond, _&&_, List, [], _∷_, _++_, Option, none, some, length, fileNameLimit, streamNameLimit, pathLimit, Checked, refused, passed, refuse, _>>=_, _>>_, refuseIf, ObjectNameInvalid, isEmpty}, proofs.Laws.{refl, ap, le-leb, lt-leb}}
+use mathlib.Core.List.{append-nil, append-assoc}
 use Rattle.components.specs.Components.{split, components}
-use Rattle.paths.specs.Paths.{Leaf, noLeaf, Path, leafOf, endsIn, validLeaf, checkedLeaf, parseComponents, parsePath}
-use Rattle.paths.specs.Positions.{named, checked}
+use Rattle.names.specs.Names.{validFileName, validStreamName}
+use Rattle.units.specs.Units.{backslash, colon}
+use Rattle.paths.specs.{Paths.{Leaf, noLeaf, Path, leafOf, endsIn, validLeaf, checkedLeaf, parseComponents, parsePath}, Positions.{named, checked}}
 
 -- the last component
 

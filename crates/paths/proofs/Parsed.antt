@@ -1,21 +1,10 @@
 -- How step 4 ends: it refuses with OBJECT_NAME_INVALID alone, and the last component of a path that passes is as
 -- LeafFits says; the root's has no name.
-use Prim.Native.Nat.{ℕ}
-use mathlib.Core.Path.{_≡_, refl}
-use mathlib.Core.Bool.{Bool, true, false, cond, not, _&&_, true≢false}
-use mathlib.Core.List.{List, [], _∷_}
-use mathlib.Core.Option.{Option, none, some}
-use borrow.Author.Tests.{not-true}
-use Rattle.lists.specs.Lists.{all, isEmpty}
-use Rattle.lists.proofs.Tests.{and-left, and-right}
-use Rattle.records.specs.Sizes.{fileNameLimit, streamNameLimit}
-use Rattle.records.specs.Checked.{Refusal}
-use Rattle.records.specs.declared.Status.the-variants.{ObjectNameInvalid}
-use Rattle.records.proofs.Checked.{Ends, stops, goes, ends-bind, ends-test, ends-cond}
-use Rattle.units.specs.Units.{colon, dataType, equalUnits}
-use Rattle.names.specs.Names.{validFileName, validStreamName}
+use Rattle.base.{specs.Base.{ℕ, _≡_, Bool, true, false, cond, not, _&&_, List, [], _∷_, Option, none, some, all, isEmpty, fileNameLimit, streamNameLimit, Refusal, ObjectNameInvalid}, proofs.Laws.{refl, true≢false, not-true, and-left, and-right, Ends, stops, goes, ends-bind, ends-test, ends-cond}}
 use Rattle.components.specs.Components.{split, components}
-use Rattle.paths.specs.Paths.{Leaf, noLeaf, Path, leafOf, validLeaf, checkedLeaf, parseComponents, parsePath}
+use Rattle.names.specs.Names.{validFileName, validStreamName}
+use Rattle.units.specs.Units.{colon, dataType, equalUnits}
+use Rattle.paths.specs.Paths.{Leaf, noLeaf, leafOf, validLeaf, checkedLeaf, parseComponents, parsePath}
 
 pub record LeafFits (wantsDirectory : Bool) (l : Leaf) : Type 0 where
   pub fileValid : isEmpty (l .file) ≡ false → validFileName fileNameLimit (l .file) ≡ true

@@ -1,22 +1,8 @@
 -- Laws of step 4: a component by its colons, and the end of a path.
-use Prim.Native.Nat.{ℕ, suc, _+_, _-_, _≤_, _<_}
-use mathlib.Core.Path.{_≡_, refl, ap, _∙_}
-use mathlib.Core.Bool.{Bool, true, false, not, cond, _&&_, false≢true}
-use mathlib.Core.List.{List, [], _∷_, map}
-use mathlib.Core.Option.{Option, none, some}
-use native.Mathlib.Omega.{arith}
-use lib.Dec.{eqb, ltb}
-use lib.ListN.{length, getD, take, drop}
-use lib.Seq.{slice, slice-empty}
-use borrow.Author.Tests.{eqb-true, ltb-true, ltb-false}
-use Rattle.lists.specs.Lists.{all, isEmpty}
-use Rattle.lists.proofs.Tests.{and-left, and-right}
-use Rattle.lists.proofs.Same.{same-is}
+use Rattle.base.{specs.Base.{ℕ, suc, _+_, _-_, _≤_, _<_, _≡_, Bool, true, false, not, cond, List, [], _∷_, map, Option, none, some, eqb, ltb, length, getD, take, drop, slice, all, isEmpty}, proofs.Laws.{refl, ap, _∙_, false≢true, arith, eqb-true, ltb-true, ltb-false, and-left, and-right, same-is}}
+use lib.Seq.{slice-empty}
+use Rattle.components.{specs.{Components.split, Positions.{leading, noSign, placeOf}}, proofs.{Splitting.{split-first, split-one, split-more}, Places.{split-last, split-found, part-some}}}
 use Rattle.units.specs.Units.{colon, dataType, upper, folded, equalUnits}
-use Rattle.components.specs.Components.{split}
-use Rattle.components.specs.Positions.{leading, noSign, placeOf}
-use Rattle.components.proofs.Splitting.{split-first, split-one, split-more}
-use Rattle.components.proofs.Places.{split-last, split-found, part-some}
 use Rattle.paths.specs.Paths.{Leaf, leafOf, endsIn}
 
 -- the last unit

@@ -1,23 +1,10 @@
 -- A walk through a path's components: what holds at one of them, from the first to the last.
-use Prim.Native.Nat.{ℕ}
-use mathlib.Core.Path.{_≡_, refl, sym, ap, _∙_}
-use mathlib.Core.Bool.{Bool, true, false}
-use mathlib.Core.List.{List, [], _∷_}
-use mathlib.Core.Option.{none}
-use lib.ListN.{take, drop}
-use Rattle.records.specs.Sizes.{fileNameLimit}
-use Rattle.records.specs.Checked.{passed, refuse, _>>=_}
-use Rattle.records.specs.declared.Status.the-variants.{ObjectNameInvalid}
-use Rattle.units.specs.Units.{backslash, colon}
+use Rattle.base.{specs.Base.{ℕ, _≡_, Bool, true, false, List, [], _∷_, take, drop, fileNameLimit, passed, refuse, _>>=_, ObjectNameInvalid}, proofs.Laws.{refl, sym, ap, _∙_}}
+use Rattle.components.{specs.{Components.{split, components}, Positions.{placeOf, partOf, nextComponent}, declared.Part.Part}, proofs.{Splitting.Open, Places.{next-found, next-none, first-open, first-parents, next-open, next-parents}}}
 use Rattle.names.specs.Names.{validFileName}
-use Rattle.components.specs.Components.{split, components}
-use Rattle.components.specs.Positions.{placeOf, partOf, nextComponent}
-use Rattle.components.specs.declared.Part.{Part}
-use Rattle.components.proofs.Splitting.{Open}
-use Rattle.components.proofs.Places.{next-found, next-none, first-open, first-parents, next-open, next-parents}
-use Rattle.paths.specs.Paths.{noLeaf, leafOf, parseComponents}
-use Rattle.paths.specs.Positions.{checked}
+use Rattle.units.specs.Units.{backslash, colon}
 use Rattle.paths.proofs.Judging.{prefixed, prefixed-nil, prefixed-twice, prefixed-last, parse-more, parse-bad}
+use Rattle.paths.specs.{Paths.{noLeaf, leafOf, parseComponents}, Positions.checked}
 
 -- at a component: it is not empty, it ends where the next separator stands, the path may be cut before it, and the
 -- answer is that for it and what follows, after the components before it

@@ -1,18 +1,9 @@
 -- Step 4: a path taken apart, with every refusal of OBJECT_NAME_INVALID. `split` and `components` are definitions of the
 -- crate components.
-use Prim.Native.Nat.{ℕ}
-use mathlib.Core.Bool.{Bool, true, false, cond, not, _&&_}
-use mathlib.Core.List.{List, [], _∷_}
-use mathlib.Core.Option.{Option, none, some}
-use lib.Dec.{eqb, leb}
-use lib.ListN.{length}
-use Rattle.lists.specs.Lists.{isEmpty}
-use Rattle.records.specs.Sizes.{fileNameLimit, streamNameLimit, pathLimit}
-use Rattle.records.specs.Checked.{Checked, passed, refuse, _>>=_, _>>_, refuseIf}
-use Rattle.records.specs.declared.Status.the-variants.{ObjectNameInvalid}
-use Rattle.units.specs.Units.{backslash, colon, dataType, equalUnits}
-use Rattle.names.specs.Names.{validFileName, validStreamName}
+use Rattle.base.specs.Base.{ℕ, Bool, true, false, cond, not, _&&_, List, [], _∷_, Option, none, some, eqb, leb, length, isEmpty, fileNameLimit, streamNameLimit, pathLimit, Checked, passed, refuse, _>>=_, _>>_, refuseIf, ObjectNameInvalid}
 use Rattle.components.specs.Components.{split, components}
+use Rattle.names.specs.Names.{validFileName, validStreamName}
+use Rattle.units.specs.Units.{backslash, colon, dataType, equalUnits}
 
 -- the last component: its file name, its stream name, and whether it has a colon
 pub record Leaf : Type 0 where

@@ -1,15 +1,7 @@
 -- Step 4: what the positions found in a path stand for.
-use Prim.Native.Nat.{ℕ}
-use mathlib.Core.Bool.{Bool}
-use mathlib.Core.List.{List, []}
-use mathlib.Core.Option.{Option, none, some}
-use Rattle.records.specs.Checked.{Checked, passed, refuse, _>>=_}
-use Rattle.records.specs.declared.Status.the-variants.{ObjectNameInvalid}
+use Rattle.base.specs.Base.{ℕ, Bool, List, [], Option, none, some, Checked, passed, refuse, _>>=_, ObjectNameInvalid}
 use Rattle.components.specs.Positions.{partOf, parentsOf}
-use Rattle.paths.specs.Paths.{Leaf, noLeaf, Path, checkedLeaf}
-use Rattle.paths.specs.declared.LeafParts.{LeafParts}
-use Rattle.paths.specs.declared.ParsedPath.{ParsedPath}
-use Rattle.paths.specs.declared.ParsedPath.the-variants.{Invalid, Root, Named}
+use Rattle.paths.specs.{Paths.{Leaf, noLeaf, Path, checkedLeaf}, declared.{LeafParts.LeafParts, ParsedPath.{ParsedPath, the-variants.{Invalid, Root, Named}}}}
 
 -- what the places found stand for
 unfoldable pub asLeaf : List ℕ → LeafParts → Leaf

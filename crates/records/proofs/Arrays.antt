@@ -1,15 +1,11 @@
 -- An array by value, of any element type: the type says how long it is, and the same of each element as of a value
 -- of the element type.
-use mathlib.Core.Path.{_≡_, sym, _∙_}
-use mathlib.Core.List.{List, [], _∷_, map}
 use Prim.Native.Nat.{ℕ, zero, suc, _<_}
-use native.Mathlib.Omega.{arith}
+use denote.{Laws.Is, Array.{Array, each}, Shadow.shadow, Struct.Field.Field}
 use lib.ListN.{length, length-map, getD}
+use mathlib.Core.{Path.{_≡_, sym, _∙_}, List.{List, [], _∷_, map}}
 use mir.Val.{Val}
-use denote.Laws.{Is}
-use denote.Array.{Array, each}
-use denote.Shadow.{shadow}
-use denote.Struct.Field.{Field}
+use native.Mathlib.Omega.{arith}
 
 -- x is a value of the field's type: some machine values stand for it
 abbrev pub Holds : (F : Field) → F .Value → Type 0

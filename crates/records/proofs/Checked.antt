@@ -1,11 +1,8 @@
 -- A chain of steps passes exactly when each step passes: what a passed chain says of its parts.
-use mathlib.Core.Path.{_≡_, refl, ap}
-use mathlib.Core.Bool.{Bool, true, false, cond}
-use mathlib.Core.Option.{Option, none, some}
-use native.Mathlib.Omega.{arith}
 use Prim.Native.Nat.{ℕ}
-use Rattle.records.specs.Checked.{Refusal, Checked, refused, passed, refuse, _>>=_, _>>_, refuseIf, someOr}
-use Rattle.records.specs.declared.Status.{Status}
+use mathlib.Core.{Path.{_≡_, refl, ap}, Bool.{Bool, true, false, cond}, Option.{Option, none, some}}
+use native.Mathlib.Omega.{arith}
+use Rattle.records.specs.{Checked.{Refusal, Checked, refused, passed, refuse, _>>=_, _>>_, refuseIf, someOr}, declared.Status.Status}
 
 -- a refusal is no passed value
 pub refused≢passed : {A : Type 0} {r : Refusal} {a : A} → Path (Checked A) (refused r) (passed a) → ⊥

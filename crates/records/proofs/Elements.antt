@@ -1,29 +1,19 @@
 -- What the type of a volume, of an open table or of a record says of each element of its arrays: it is a value of the
 -- element's type, so that its own arrays have their lengths and its numbers fit.
 use Prim.Native.Nat.{ℕ, _^_, _<_}
-use mathlib.Core.List.{List, []}
-use native.Mathlib.Omega.{arith}
+use denote.{Laws.Is, Struct.Field.{u16-field, u32-field}}
 use lib.ListN.{getD}
+use mathlib.Core.List.{List, []}
 use mir.Val.{Val}
-use denote.Laws.{Is}
-use denote.Struct.Field.{u16-field, u32-field}
-use Rattle.records.proofs.Arrays.{Holds, array-element}
-use Rattle.records.proofs.Lengths.{masks-length, link-name-length, stream-name-length, files-length, links-length, streams-length, rows-length}
+use native.Mathlib.Omega.{arith}
+use Rattle.records.proofs.{Arrays.{Holds, array-element}, Lengths.{masks-length, link-name-length, stream-name-length, files-length, links-length, streams-length, rows-length}}
+use Rattle.records.specs.{Sizes.{accounts, fileNameLimit, streamNameLimit, fileSlots, linkSlots, streamSlots, openSlots}, Slots.{root, zeroCounts}, declared.{FileType.the-variants.Unused, File.File, Link.Link, Stream.Stream, Open.Open, Volume.Volume, OpenTable.OpenTable}}
 use Rattle.records.proofs.File as FileT
 use Rattle.records.proofs.Link as LinkT
 use Rattle.records.proofs.Stream as StreamT
 use Rattle.records.proofs.Open as OpenT
 use Rattle.records.proofs.Volume as VolumeT
 use Rattle.records.proofs.OpenTable as OpenTableT
-use Rattle.records.specs.Sizes.{accounts, fileNameLimit, streamNameLimit, fileSlots, linkSlots, streamSlots, openSlots}
-use Rattle.records.specs.Slots.{root, zeroCounts}
-use Rattle.records.specs.declared.FileType.the-variants.{Unused}
-use Rattle.records.specs.declared.File.{File}
-use Rattle.records.specs.declared.Link.{Link}
-use Rattle.records.specs.declared.Stream.{Stream}
-use Rattle.records.specs.declared.Open.{Open}
-use Rattle.records.specs.declared.Volume.{Volume}
-use Rattle.records.specs.declared.OpenTable.{OpenTable}
 
 -- the defaults of a record that the code reads out of a table: all zero, with no array. An open has no array, so that
 -- its default is the free slot itself

@@ -1,24 +1,17 @@
 -- What the type of a record says of its arrays: how long each is. A proof hands over what owning a parameter tells,
 -- as `files-length (c .args .v) _ (c .good .0)`.
-use mathlib.Core.Path.{_≡_}
-use mathlib.Core.List.{List}
+use denote.{Laws.Is, Struct.Field.{u16-field, u32-field}}
 use lib.ListN.{length}
+use mathlib.Core.{Path._≡_, List.List}
 use mir.Val.{Val}
-use denote.Laws.{Is}
-use denote.Struct.Field.{u16-field, u32-field}
 use Rattle.records.proofs.Arrays.{array-length}
+use Rattle.records.specs.{Sizes.{accounts, fileNameLimit, streamNameLimit, fileSlots, linkSlots, streamSlots, openSlots}, declared.{File.File, Link.Link, Stream.Stream, Volume.Volume, OpenTable.OpenTable}}
 use Rattle.records.proofs.File as FileT
 use Rattle.records.proofs.Link as LinkT
 use Rattle.records.proofs.Stream as StreamT
 use Rattle.records.proofs.Open as OpenT
 use Rattle.records.proofs.Volume as VolumeT
 use Rattle.records.proofs.OpenTable as OpenTableT
-use Rattle.records.specs.Sizes.{accounts, fileNameLimit, streamNameLimit, fileSlots, linkSlots, streamSlots, openSlots}
-use Rattle.records.specs.declared.File.{File}
-use Rattle.records.specs.declared.Link.{Link}
-use Rattle.records.specs.declared.Stream.{Stream}
-use Rattle.records.specs.declared.Volume.{Volume}
-use Rattle.records.specs.declared.OpenTable.{OpenTable}
 
 module _ (f : File) (vs : List Val) (good : Is FileT.the-row f vs) where
   pub masks-length : length (f .masks) ≡ accounts

@@ -1,6 +1,5 @@
 -- A value, or why a step refuses. With these operators a `do` block reads as the paper's steps: the first refusal ends it.
-use mathlib.Core.Bool.{Bool, true, false}
-use mathlib.Core.Option.{Option, none, some}
+use mathlib.Core.{Bool.{Bool, true, false}, Option.{Option, none, some}}
 use Rattle.records.specs.declared.Status.{Status}
 
 -- what a refusal tells

@@ -1,9 +1,5 @@
 -- What evaluation unfolds: a proof that names `computes` computes with all of these.
-use Rattle.records.specs.Numbers.{statusNumber, actionNumber, seen}
-use Rattle.records.specs.Slots.{isUsed, isDirectory, isData, fileUsed, linkUsed, streamUsed, openUsed, maskOf}
-use Rattle.records.specs.Namespace.{bareUsed, bareAt, bare, withCounts, namespace}
-use Rattle.records.specs.Checked.{_>>=_, _>>_, refuseIf, someOr}
-use Rattle.records.specs.State.{concluded}
+use Rattle.records.specs.{Numbers.{statusNumber, actionNumber, seen}, Slots.{isUsed, isDirectory, isData, fileUsed, linkUsed, streamUsed, openUsed, maskOf}, Namespace.{bareUsed, bareAt, bare, withCounts, namespace}, Checked.{_>>=_, _>>_, refuseIf, someOr}, State.concluded}
 
 unfoldable pub computes : Unit {0}
 unfolding statusNumber actionNumber seen isUsed isDirectory isData fileUsed linkUsed streamUsed openUsed maskOf

@@ -1,19 +1,8 @@
 -- The tables without opens and share counts: what the model keeps of a volume, and all that steps 1 to 9 look at.
 use Prim.Native.Nat.{ℕ}
-use mathlib.Core.Bool.{Bool}
-use mathlib.Core.List.{List, map}
 use lib.ListN.{getD, replicate}
-use Rattle.records.specs.Sizes.{streamNameLimit}
-use Rattle.records.specs.Slots.{root, isUsed, zeroCounts}
-use Rattle.records.specs.declared.FileNo.{FileNo}
-use Rattle.records.specs.declared.StreamNo.{StreamNo}
-use Rattle.records.specs.declared.FileType.{FileType}
-use Rattle.records.specs.declared.FileType.the-variants.{Unused}
-use Rattle.records.specs.declared.File.{File}
-use Rattle.records.specs.declared.Link.{Link}
-use Rattle.records.specs.declared.ShareCounts.{ShareCounts}
-use Rattle.records.specs.declared.Stream.{Stream}
-use Rattle.records.specs.declared.Volume.{Volume}
+use mathlib.Core.{Bool.Bool, List.{List, map}}
+use Rattle.records.specs.{Sizes.streamNameLimit, Slots.{root, isUsed}, declared.{FileNo.FileNo, StreamNo.StreamNo, FileType.{FileType, the-variants.Unused}, File.File, Link.Link, ShareCounts.ShareCounts, Stream.Stream, Volume.Volume}}
 
 -- a stream without its share counts
 pub record BareStream : Type 0 where

@@ -1,12 +1,7 @@
 -- The paper's number, and the values beside it, for every case of an answer (document 01, "Statuses given").
 use Prim.Native.Nat.{ℕ}
 use mathlib.Core.Option.{Option, none, some}
-use Rattle.records.specs.declared.CreateAction.{CreateAction}
-use Rattle.records.specs.declared.CreateAction.the-variants.{Superseded, Opened, Created, Overwritten}
-use Rattle.records.specs.declared.Status.{Status}
-use Rattle.records.specs.declared.Status.the-variants.{FileCorruptError, InvalidParameter, AccessDenied, ObjectNameInvalid, MediaWriteProtected, ObjectPathNotFound, ObjectNameNotFound, ObjectNameCollision, FileIsADirectory, NotADirectory, SharingViolation, DiskFull, TooManyOpenedFiles, InsufficientResources, InvalidHandle}
-use Rattle.records.specs.declared.Outcome.{Outcome}
-use Rattle.records.specs.declared.Outcome.the-variants.{Success, Done, Refused}
+use Rattle.records.specs.declared.{CreateAction.{CreateAction, the-variants.{Superseded, Opened, Created, Overwritten}}, Status.{Status, the-variants.{FileCorruptError, InvalidParameter, AccessDenied, ObjectNameInvalid, MediaWriteProtected, ObjectPathNotFound, ObjectNameNotFound, ObjectNameCollision, FileIsADirectory, NotADirectory, SharingViolation, DiskFull, TooManyOpenedFiles, InsufficientResources, InvalidHandle}}, Outcome.{Outcome, the-variants.{Success, Done, Refused}}}
 
 unfoldable pub statusNumber : Status → ℕ
 statusNumber FileCorruptError = 0xC0000102

@@ -1,17 +1,8 @@
 -- Free and used slots.
 use Prim.Native.Nat.{ℕ}
+use lib.{Dec.eqb, ListN.{getD, replicate}}
 use mathlib.Core.Bool.{Bool, true, false, not}
-use lib.Dec.{eqb}
-use lib.ListN.{getD, replicate}
-use Rattle.records.specs.Sizes.{accounts, fileNameLimit, streamNameLimit}
-use Rattle.records.specs.declared.FileNo.{FileNo}
-use Rattle.records.specs.declared.FileType.{FileType}
-use Rattle.records.specs.declared.FileType.the-variants.{Unused, Data, Directory}
-use Rattle.records.specs.declared.File.{File}
-use Rattle.records.specs.declared.Link.{Link}
-use Rattle.records.specs.declared.ShareCounts.{ShareCounts}
-use Rattle.records.specs.declared.Stream.{Stream}
-use Rattle.records.specs.declared.Open.{Open}
+use Rattle.records.specs.{Sizes.{accounts, fileNameLimit, streamNameLimit}, declared.{FileNo.FileNo, FileType.{FileType, the-variants.{Unused, Data, Directory}}, File.File, Link.Link, ShareCounts.ShareCounts, Stream.Stream, Open.Open}}
 
 -- the root
 abbrev pub root : FileNo

@@ -1,10 +1,6 @@
 -- What a call does: a reply, and the state after it.
 use mathlib.Core.Path.{_≡_}
-use Rattle.records.specs.Numbers.{Reply, seen, refusedReply, doneReply}
-use Rattle.records.specs.Checked.{Checked, refused, passed}
-use Rattle.records.specs.declared.OpenTable.{OpenTable}
-use Rattle.records.specs.declared.Volume.{Volume}
-use Rattle.records.specs.declared.Answer.{Answer}
+use Rattle.records.specs.{Numbers.{Reply, seen, refusedReply, doneReply}, Checked.{Checked, refused, passed}, declared.{OpenTable.OpenTable, Volume.Volume, Answer.Answer}}
 
 -- the object store's state
 pub record Tables : Type 0 where

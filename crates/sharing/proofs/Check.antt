@@ -1,21 +1,8 @@
 -- The share check from the counts of a list of opens is the comparison of the new open with each of them.
-use Prim.Native.Nat.{ℕ}
-use mathlib.Core.Path.{_≡_, refl, sym, _∙_, ap, ap₂}
-use mathlib.Core.Bool.{Bool, true, false, not, _&&_, _||_, and-comm, and-false, or-comm}
-use mathlib.Core.List.{List}
-use lib.Dec.{eqb, ltb}
-use Rattle.lists.specs.Lists.{any, keep, Permutation}
-use Rattle.lists.proofs.Tests.{and-left}
-use Rattle.lists.proofs.Any.{any-same, any-or, any-and}
-use Rattle.lists.proofs.Count.{count-some, count-fewer}
-use Rattle.lists.proofs.Keep.{any-keep}
-use Rattle.lists.proofs.Permutations.{perm-any}
-use Rattle.records.specs.Terms.{Terms, termsOf}
-use Rattle.records.specs.declared.StreamNo.{StreamNo}
-use Rattle.records.specs.declared.Open.{Open}
+use Rattle.base.{specs.Base.{ℕ, _≡_, Bool, true, false, not, _&&_, _||_, List, eqb, ltb, any, keep, Permutation, Terms, termsOf, StreamNo, Open}, proofs.Laws.{refl, sym, _∙_, ap, ap₂, and-left, any-same, any-or, any-and, count-some, count-fewer, any-keep, perm-any}}
+use mathlib.Core.Bool.{and-comm, and-false, or-comm}
+use Rattle.sharing.proofs.{PairRule.any-kind-same, Counts.{opens-of, holders-of, sharers-of}}
 use Rattle.sharing.specs.Sharing.{Kind, reading, writing, deleting, anyKind, holds, shares, counted, conflict, onStream, anyConflict, isHolder, isSharer, countsOfAll, countsOf, holders, sharers, shareCheck}
-use Rattle.sharing.proofs.PairRule.{any-kind-same}
-use Rattle.sharing.proofs.Counts.{opens-of, holders-of, sharers-of}
 
 pub any-conflict-perm : {xs ys : List Open} → Permutation xs ys → (s : StreamNo) (t : Terms)
     → anyConflict s t xs ≡ anyConflict s t ys

@@ -1,18 +1,5 @@
 -- The share counts of a list of opens: in any order, with one open more, with one less, and how large they are.
-use Prim.Native.Nat.{ℕ, _+_, _-_, _≤_}
-use mathlib.Core.Path.{_≡_, refl, sym, _∙_, ap}
-use mathlib.Core.Bool.{Bool, true, false, cond}
-use mathlib.Core.List.{List, _∷_}
-use native.Mathlib.Omega.{arith}
-use lib.ListN.{length}
-use Rattle.lists.specs.Lists.{any, count, keep, Permutation}
-use Rattle.lists.proofs.Count.{count-add, count-bound}
-use Rattle.lists.proofs.Keep.{keep-yes, keep-no, keep-none, length-keep}
-use Rattle.lists.proofs.Permutations.{perm-keep, perm-count}
-use Rattle.records.specs.Slots.{zeroCounts}
-use Rattle.records.specs.declared.StreamNo.{StreamNo}
-use Rattle.records.specs.declared.Open.{Open}
-use Rattle.records.specs.declared.ShareCounts.{ShareCounts}
+use Rattle.base.{specs.Base.{ℕ, _+_, _-_, _≤_, _≡_, Bool, true, false, cond, List, _∷_, length, any, count, keep, Permutation, zeroCounts, StreamNo, Open, ShareCounts}, proofs.Laws.{refl, sym, _∙_, ap, arith, count-add, count-bound, keep-yes, keep-no, keep-none, length-keep, perm-keep, perm-count}}
 use Rattle.sharing.specs.Sharing.{Kind, reading, writing, deleting, counted, isHolder, isSharer, onStream, countsOfAll, countsOf, holders, sharers, changedBy, withOpen, withoutOpen}
 
 -- counts are equal where the opens are, and each kind's holders and sharers

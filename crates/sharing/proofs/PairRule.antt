@@ -1,11 +1,7 @@
 -- Which opens are counted; the pair rule doesn't depend on the order of the two opens, and an uncounted one conflicts
 -- with none.
-use Prim.Native.Nat.{ℕ}
-use mathlib.Core.Path.{_≡_, refl, ap₂}
-use mathlib.Core.Bool.{Bool, true, false, not, _&&_, _||_, and-comm, or-comm}
-use Rattle.lists.proofs.Tests.{or-left, or-right}
-use Rattle.records.specs.Terms.{Terms, termsOf}
-use Rattle.records.specs.declared.Open.{Open}
+use Rattle.base.{specs.Base.{ℕ, _≡_, Bool, true, false, not, _&&_, _||_, Terms, termsOf, Open}, proofs.Laws.{ap₂, or-left, or-right}}
+use mathlib.Core.Bool.{and-comm, or-comm}
 use Rattle.sharing.specs.Sharing.{Kind, reading, writing, deleting, anyKind, holds, shares, counted, conflict, conflicting}
 
 -- two tests that agree on each kind

@@ -1,16 +1,7 @@
 -- Adding an open in fields that end at a limit is adding it, where the counts are below the limit.
-use Prim.Native.Nat.{ℕ, _+_, _≤_, _<_}
-use mathlib.Core.Path.{_≡_}
-use mathlib.Core.Bool.{Bool, true, false, cond}
-use mathlib.Core.List.{List}
-use native.Mathlib.Omega.{arith}
-use lib.ListN.{length}
-use Rattle.records.specs.declared.StreamNo.{StreamNo}
-use Rattle.records.specs.declared.Open.{Open}
-use Rattle.records.specs.declared.ShareCounts.{ShareCounts}
-use Rattle.sharing.specs.Sharing.{counted, isHolder, isSharer, holders, sharers, countsOf, changedBy, withOpen}
-use Rattle.sharing.specs.Saturating.{plusUpTo, withOpenUpTo}
+use Rattle.base.{specs.Base.{ℕ, _+_, _≤_, _<_, _≡_, Bool, true, false, cond, List, length, StreamNo, Open, ShareCounts}, proofs.Laws.arith}
 use Rattle.sharing.proofs.Counts.{AtMost, same-counts, opens-changed, holders-changed, sharers-changed, counts-bound}
+use Rattle.sharing.specs.{Sharing.{counted, isHolder, isSharer, holders, sharers, countsOf, changedBy, withOpen}, Saturating.{plusUpTo, withOpenUpTo}}
 
 -- one more than a number below the limit
 plus-below : (limit n : ℕ) → n < limit → (b : Bool) → plusUpTo limit n (cond b 1 0) ≡ n + cond b 1 0

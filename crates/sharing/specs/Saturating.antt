@@ -1,7 +1,6 @@
 -- The share counts with one open more in fields that end at a limit. Counts below it become those of the sharing rule.
-use Prim.Native.Nat.{ℕ, _+_, min}
-use Rattle.records.specs.declared.Open.{Open}
-use Rattle.records.specs.declared.ShareCounts.{ShareCounts}
+use Rattle.base.specs.Base.{ℕ, _+_, Open, ShareCounts}
+use Prim.Native.Nat.{min}
 use Rattle.sharing.specs.Sharing.{changedBy}
 
 -- what a field of a ShareCounts ends at

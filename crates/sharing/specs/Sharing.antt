@@ -1,14 +1,5 @@
 -- The sharing rule. What holds of reading, writing and deleting alike is said once, over the kind.
-use Prim.Native.Nat.{ℕ, _+_, _-_}
-use mathlib.Core.Bool.{Bool, true, false, cond, not, _&&_, _||_}
-use mathlib.Core.List.{List}
-use lib.Dec.{eqb, ltb}
-use Rattle.bits.specs.Bits.{has}
-use Rattle.lists.specs.Lists.{all, any, count, keep}
-use Rattle.records.specs.Terms.{Terms, termsOf}
-use Rattle.records.specs.declared.StreamNo.{StreamNo}
-use Rattle.records.specs.declared.Open.{Open}
-use Rattle.records.specs.declared.ShareCounts.{ShareCounts}
+use Rattle.base.specs.Base.{ℕ, _+_, _-_, Bool, cond, not, _&&_, _||_, List, eqb, ltb, has, any, count, keep, Terms, termsOf, StreamNo, Open, ShareCounts}
 
 -- the three kinds of access that are shared
 pub data Kind : Type 0 where

@@ -1,7 +1,6 @@
 -- The worked cases hold, by evaluation of the definitions.
-use mathlib.Core.Path.{refl}
-use Rattle.store.specs.Evaluate.{computes, storeRun, modelRun}
-use Rattle.store.specs.Cases.{attributesOf, sevenCounts, observed, expected, Hold, workedCases, furtherCases}
+use Rattle.base.proofs.Laws.{refl}
+use Rattle.store.specs.{Evaluate.{computes, storeRun, modelRun}, Cases.{attributesOf, sevenCounts, observed, expected, Hold, workedCases, furtherCases}}
 
 pub worked-cases : Hold workedCases
 unfolding computes storeRun modelRun attributesOf sevenCounts observed expected

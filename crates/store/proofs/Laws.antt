@@ -1,32 +1,11 @@
 -- Laws of the calls that stand by themselves: a refused call changes nothing, and each call keeps consistent tables
 -- consistent and is answered as the model of those tables would answer it.
-use Prim.Native.Nat.{_≤_, pred, suc, ℕ}
-use Rattle.consistency.specs.Consistent.{Consistent}
-use Rattle.consistency.specs.Relations.{live}
+use Rattle.base.{specs.Base.{_≤_, suc, ℕ, count, Checked, _>>=_, passed, refused, namespace, Step, Tables, concluded, CreateAction, Handle, Done, Refused, Success, Outcome, FileCorruptError, InvalidParameter, Status, Bool, List, _⊎_, inl, inr, _≡_}, proofs.Laws.{perm-refl, Ends, ends-test, goes, stops, went, refl, arith}}
+use Prim.Native.Nat.{pred}
+use Rattle.consistency.specs.{Consistent.Consistent, Relations.live}
 use Rattle.format.specs.Format.{checkedMasks, format}
-use Rattle.lists.proofs.Permutations.{perm-refl}
-use Rattle.lists.specs.Lists.{count}
-use Rattle.records.proofs.Checked.{Ends, ends-test, goes, stops, went}
-use Rattle.records.specs.Checked.{Checked, _>>=_, _>>=_, passed, refused}
-use Rattle.records.specs.Namespace.{namespace}
-use Rattle.records.specs.State.{Step, Tables, concluded}
-use Rattle.records.specs.declared.CreateAction.{CreateAction}
-use Rattle.records.specs.declared.Handle.{Handle}
-use Rattle.records.specs.declared.Outcome.the-variants.{Done, Refused, Success}
-use Rattle.records.specs.declared.Outcome.{Outcome}
-use Rattle.records.specs.declared.Status.the-variants.{FileCorruptError, InvalidParameter}
-use Rattle.records.specs.declared.Status.{Status}
-use Rattle.store.proofs.Sequences.Steps.{together}
-use Rattle.store.proofs.Sequences.Views.{Related}
-use Rattle.store.specs.Calls.{Call, closes, modelStep, opens, setsReadOnly, storeStep}
-use Rattle.store.specs.Complete.{nextHandle}
-use Rattle.store.specs.Model.{Model}
-use Rattle.store.specs.Store.{closed, opened, storeClose, storeOpen, storeSetReadOnly, whenConsistent}
-use mathlib.Core.Bool.{Bool}
-use mathlib.Core.List.{List}
-use mathlib.Core.Logic.{_⊎_, inl, inr}
-use mathlib.Core.Path.{_≡_, _≡_, refl}
-use native.Mathlib.Omega.{arith}
+use Rattle.store.proofs.Sequences.{Steps.together, Views.Related}
+use Rattle.store.specs.{Calls.{Call, closes, modelStep, opens, setsReadOnly, storeStep}, Complete.nextHandle, Model.Model, Store.{closed, opened, storeClose, storeOpen, storeSetReadOnly, whenConsistent}}
 
 -- a step that is no refusal
 abbrev Accepts : {S : Type 0} → Step S → Type 0

@@ -1,17 +1,6 @@
 -- The step cases hold, by evaluation of the definitions.
-use mathlib.Core.Path.{refl}
-use Rattle.store.specs.StepCases.Form.{expected, failing, Hold}
-use Rattle.store.specs.StepCases.Parameters.{parameterCases, outsideCases, accessBitCases}
-use Rattle.store.specs.StepCases.Names.{pathCases, nameCases, namesAlone, NamesAloneHold}
-use Rattle.store.specs.StepCases.Lookups.{readOnlyCases, lookupCases, typeCases}
-use Rattle.store.specs.StepCases.NewFiles.{newFileCases, parentCases}
-use Rattle.store.specs.StepCases.Directories.{directoryCases, shareReadCases}
-use Rattle.store.specs.StepCases.Streams.{foundCases, gainedCases, missingCases}
-use Rattle.store.specs.StepCases.Rules.{accessCases, sharingCases}
-use Rattle.store.specs.StepCases.Resources.{tables, sparse, resourceCases, slotCases}
-use Rattle.store.specs.StepCases.Calls.{callCases}
-use Rattle.store.specs.StepCases.Shares.{expectedShares, SharesHold, shareCases}
-use Rattle.store.specs.StepCases.Tables.{expectedTables, TablesHold, corruptCases, formatCases, runCases}
+use Rattle.base.proofs.Laws.{refl}
+use Rattle.store.specs.StepCases.{Form.{expected, failing, Hold}, Parameters.{parameterCases, outsideCases, accessBitCases}, Names.{pathCases, nameCases, namesAlone, NamesAloneHold}, Lookups.{readOnlyCases, lookupCases, typeCases}, NewFiles.{newFileCases, parentCases}, Directories.{directoryCases, shareReadCases}, Streams.{foundCases, gainedCases, missingCases}, Rules.{accessCases, sharingCases}, Resources.{tables, sparse, resourceCases, slotCases}, Calls.callCases, Shares.{expectedShares, SharesHold, shareCases}, Tables.{expectedTables, TablesHold, corruptCases, formatCases, runCases}}
 
 pub parameter-cases : Hold parameterCases
 unfolding expected failing

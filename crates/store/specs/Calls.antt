@@ -1,13 +1,6 @@
 -- Calls as data, and the run of a list of calls over the tables and over the model, each with its replies in order.
-use Prim.Native.Nat.{ℕ}
-use mathlib.Core.Bool.{Bool}
-use mathlib.Core.List.{List, [], _∷_}
-use Rattle.records.specs.Numbers.{Reply}
-use Rattle.records.specs.State.{Tables, Step}
-use Rattle.records.specs.declared.Handle.{Handle}
-use Rattle.records.specs.declared.Request.{Request}
-use Rattle.store.specs.Store.{storeOpen, storeClose, storeSetReadOnly}
-use Rattle.store.specs.Model.{Model, modelOpen, modelClose, modelSetReadOnly}
+use Rattle.base.specs.Base.{ℕ, Bool, List, [], _∷_, Reply, Tables, Step, Handle, Request}
+use Rattle.store.specs.{Store.{storeOpen, storeClose, storeSetReadOnly}, Model.{Model, modelOpen, modelClose, modelSetReadOnly}}
 
 pub data Call : Type 0 where
   opens : Request → List ℕ → Call

@@ -1,29 +1,7 @@
 -- Worked cases (document 01, "Bench cases"): what the object store and the model answer, and what stands in the tables
 -- then. One table, one statement; proofs/Cases.antt proves it by evaluation.
-use Prim.Native.Nat.{ℕ, _-_}
-use mathlib.Core.Path.{_≡_}
-use mathlib.Core.Bool.{Bool, true, false}
-use mathlib.Core.List.{List, [], _∷_, _++_, map}
-use mathlib.Core.Option.{Option, none, some}
-use lib.ListN.{replicate}
-use Rattle.lists.specs.Lists.{keep, padded}
-use Rattle.records.specs.Sizes.{accounts, fileNameLimit, streamNameLimit, fileSlots, linkSlots, streamSlots}
-use Rattle.records.specs.Constants.{allAccess, directory}
-use Rattle.records.specs.Numbers.{Seen, seen, statusNumber}
-use Rattle.records.specs.State.{Tables}
-use Rattle.records.specs.Slots.{root, zeroFile, zeroLink, fileUsed, streamUsed}
-use Rattle.records.specs.Namespace.{BareStream, zeroBare, Namespace}
-use Rattle.records.specs.Checked.{Checked, refused, passed}
-use Rattle.records.specs.declared.FileType.the-variants.{Directory}
-use Rattle.records.specs.declared.File.{File}
-use Rattle.records.specs.declared.Link.{Link}
-use Rattle.records.specs.declared.Stream.{Stream}
-use Rattle.records.specs.declared.ShareCounts.{ShareCounts}
-use Rattle.units.specs.Units.{dataType}
-use Rattle.store.specs.Complete.{Decision, decide}
-use Rattle.store.specs.Model.{Model}
-use Rattle.store.specs.Calls.{Call, opens, closes, setsReadOnly, Run, run, storeStep, modelStep}
-use Rattle.store.specs.Evaluate.{storeRun, modelRun}
+use Rattle.base.specs.Base.{ℕ, _≡_, false, List, [], _∷_, map, none, some, replicate, keep, accounts, allAccess, Seen, seen, fileUsed, streamUsed, File, Stream}
+use Rattle.store.specs.{Calls.{Call, opens, closes, run, storeStep, modelStep}, Evaluate.{storeRun, modelRun}}
 
 abbrev pub refusedWith : ℕ → Seen
 refusedWith status = record { status = status; action = none; handle = 0; granted = 0 }

@@ -1,35 +1,8 @@
 -- The sharing check, step 10's share-read rule and step 12: whether a pending open is accepted, and what it changes. And
 -- what a close does.
 -- The object store and the model share this text; each answers the questions about its opens in its own way.
-use Prim.Native.Nat.{ℕ, suc}
-use mathlib.Core.Bool.{Bool, true, false, cond, not}
-use mathlib.Core.List.{List, [], _∷_}
-use mathlib.Core.Option.{Option, none, some}
-use lib.Bits.{bitOr}
-use lib.Dec.{eqb}
-use Rattle.lists.specs.Lists.{firstFree, isEmpty, padded, writes}
-use Rattle.records.specs.Sizes.{fileNameLimit, streamNameLimit, lastHandle}
-use Rattle.records.specs.Constants.{shareRead}
-use Rattle.records.specs.Slots.{fileUsed, linkUsed}
-use Rattle.records.specs.Terms.{Terms}
+use Rattle.base.specs.Base.{ℕ, suc, Bool, cond, not, List, [], _∷_, Option, none, some, bitOr, eqb, firstFree, isEmpty, padded, writes, fileNameLimit, streamNameLimit, lastHandle, shareRead, fileUsed, linkUsed, Terms, Namespace, BareStream, bareUsed, Checked, passed, _>>=_, _>>_, refuseIf, someOr, AccessDenied, SharingViolation, DiskFull, TooManyOpenedFiles, InsufficientResources, InvalidHandle, Reply, Success, CreateAction, Created, FileType, Data, FileNo, LinkNo, StreamNo, Handle, File, Link, Open, Request}
 use Rattle.tables.specs.Tables.{fileAt}
-use Rattle.records.specs.Namespace.{Namespace, BareStream, bareUsed}
-use Rattle.records.specs.Checked.{Checked, passed, _>>=_, _>>_, refuseIf, someOr}
-use Rattle.records.specs.declared.Status.the-variants.{AccessDenied, SharingViolation, DiskFull, TooManyOpenedFiles, InsufficientResources, InvalidHandle}
-use Rattle.records.specs.Numbers.{Reply}
-use Rattle.records.specs.declared.Outcome.the-variants.{Success}
-use Rattle.records.specs.declared.CreateAction.{CreateAction}
-use Rattle.records.specs.declared.CreateAction.the-variants.{Created}
-use Rattle.records.specs.declared.FileType.{FileType}
-use Rattle.records.specs.declared.FileType.the-variants.{Data}
-use Rattle.records.specs.declared.FileNo.{FileNo}
-use Rattle.records.specs.declared.LinkNo.{LinkNo}
-use Rattle.records.specs.declared.StreamNo.{StreamNo}
-use Rattle.records.specs.declared.Handle.{Handle}
-use Rattle.records.specs.declared.File.{File}
-use Rattle.records.specs.declared.Link.{Link}
-use Rattle.records.specs.declared.Open.{Open}
-use Rattle.records.specs.declared.Request.{Request}
 use Rattle.store.specs.Prepare.{ReadSharing, asOffered, addedIfAlone, deniedIfAlone, Existing, Creation, newStream, newFile, Pending, existing, creating, prepare}
 
 -- the questions about the opens: does one on the stream conflict with these terms, has the file any open at all, which

@@ -1,32 +1,22 @@
 -- Runs from a fresh volume, for evaluation: a proof that unfolds `computes` computes with every definition.
-use Prim.Native.Nat.{ℕ}
-use mathlib.Core.Bool.{Bool}
-use mathlib.Core.List.{List}
-use Rattle.bits.specs.Evaluate.{computes as bits}
-use Rattle.lists.specs.Evaluate.{computes as lists}
-use Rattle.records.specs.Evaluate.{computes as records}
-use Rattle.tables.specs.Evaluate.{computes as tables}
-use Rattle.open_table.specs.Evaluate.{computes as openTable}
-use Rattle.units.specs.Evaluate.{computes as units}
-use Rattle.names.specs.Evaluate.{computes as names}
-use Rattle.stored_names.specs.Evaluate.{computes as storedNames}
-use Rattle.components.specs.Evaluate.{computes as components}
-use Rattle.paths.specs.Evaluate.{computes as paths}
-use Rattle.lookup.specs.Evaluate.{computes as lookup}
-use Rattle.stream_lookup.specs.Evaluate.{computes as streamLookup}
+use Rattle.base.specs.Base.{ℕ, Bool, List, Tables}
 use Rattle.access.specs.Evaluate.{computes as access}
-use Rattle.sharing.specs.Evaluate.{computes as sharing}
+use Rattle.bits.specs.Evaluate.{computes as bits}
+use Rattle.components.specs.Evaluate.{computes as components}
 use Rattle.consistency.specs.Evaluate.{computes as consistency}
-use Rattle.format.specs.Evaluate.{computes as format}
-use Rattle.records.specs.State.{Tables}
-use Rattle.format.specs.Format.{freshTables}
-use Rattle.store.specs.Request.{wantsDirectory, wantsFile, badParameters, badAccess, wantsBoth, writesVolume}
-use Rattle.store.specs.Target.{targetNew, wrongType, targetDirectory, targetData, targetFound, targetAt, target}
-use Rattle.store.specs.Prepare.{grant, grantedNew, newType, attributesNew, fileNew, admitFile, readSharingOf, admitOpen, hiddenOrSystem, gained, replacing, replacement, admitReplace, admitStream, admit, prepare}
-use Rattle.store.specs.Complete.{changed, withShareRead, shareOf, freeFile, freeLink, freeStream, withAttributes, streamNew, linkNew, placeFile, placeStreams, place, nextHandle, attributeChange, placeExisting, complete, decide, decideClose}
-use Rattle.store.specs.Store.{hasHandle, storeView, writeStreams, changedVolume, recount, stored, rowsWithOpen, volumeWithOpen, opened, rowsWithoutOpen, volumeWithoutOpen, closed, volumeMarked, whenConsistent, storeOpen, storeClose, storeSetReadOnly}
-use Rattle.store.specs.Model.{Model, freshModel, modelFormat, modelView, modelOpened, modelOpen, modelClosed, modelClose, namespaceMarked, modelSetReadOnly}
-use Rattle.store.specs.Calls.{Call, Run, storeStep, modelStep, run}
+use Rattle.format.specs.{Evaluate.computes as format, Format.freshTables}
+use Rattle.lists.specs.Evaluate.{computes as lists}
+use Rattle.lookup.specs.Evaluate.{computes as lookup}
+use Rattle.names.specs.Evaluate.{computes as names}
+use Rattle.open_table.specs.Evaluate.{computes as openTable}
+use Rattle.paths.specs.Evaluate.{computes as paths}
+use Rattle.records.specs.Evaluate.{computes as records}
+use Rattle.sharing.specs.Evaluate.{computes as sharing}
+use Rattle.stored_names.specs.Evaluate.{computes as storedNames}
+use Rattle.stream_lookup.specs.Evaluate.{computes as streamLookup}
+use Rattle.tables.specs.Evaluate.{computes as tables}
+use Rattle.units.specs.Evaluate.{computes as units}
+use Rattle.store.specs.{Request.{wantsDirectory, wantsFile, badParameters, badAccess, wantsBoth, writesVolume}, Target.{targetNew, wrongType, targetDirectory, targetData, targetFound, targetAt, target}, Prepare.{grant, grantedNew, newType, attributesNew, fileNew, admitFile, readSharingOf, admitOpen, hiddenOrSystem, gained, replacing, replacement, admitReplace, admitStream, admit, prepare}, Complete.{changed, withShareRead, shareOf, freeFile, freeLink, freeStream, withAttributes, streamNew, linkNew, placeFile, placeStreams, place, nextHandle, attributeChange, placeExisting, complete, decide, decideClose}, Store.{hasHandle, storeView, writeStreams, changedVolume, recount, stored, rowsWithOpen, volumeWithOpen, opened, rowsWithoutOpen, volumeWithoutOpen, closed, volumeMarked, whenConsistent, storeOpen, storeClose, storeSetReadOnly}, Model.{Model, freshModel, modelFormat, modelView, modelOpened, modelOpen, modelClosed, modelClose, namespaceMarked, modelSetReadOnly}, Calls.{Call, Run, storeStep, modelStep, run}}
 
 unfoldable pub computes : Unit {0}
 unfolding bits lists records tables openTable units names storedNames components paths lookup streamLookup access

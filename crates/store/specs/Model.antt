@@ -1,23 +1,10 @@
 -- The model (the paper's book): a plain machine without slots for opens, share counts or a consistency test. Its entries
 -- stand for the opens table, and sharing goes by the pair rule with each entry on the stream.
-use Prim.Native.Nat.{ℕ, suc}
-use mathlib.Core.Bool.{Bool, not}
-use mathlib.Core.List.{List, [], _∷_}
-use lib.Dec.{ltb}
-use lib.ListN.{length}
-use Rattle.lists.specs.Lists.{find, keep}
-use Rattle.records.specs.Sizes.{openSlots}
-use Rattle.records.specs.Namespace.{Namespace, namespace}
-use Rattle.records.specs.Checked.{passed, _>>=_, _>>_}
-use Rattle.records.specs.State.{Step, done, concluded}
-use Rattle.records.specs.declared.Handle.{Handle}
-use Rattle.records.specs.declared.Open.{Open}
-use Rattle.records.specs.declared.Request.{Request}
+use Rattle.base.specs.Base.{ℕ, suc, Bool, not, List, [], _∷_, ltb, length, find, keep, openSlots, Namespace, namespace, passed, _>>=_, _>>_, Step, done, concluded, Handle, Open, Request}
+use Rattle.format.specs.Format.{freshVolume, checkedMasks}
 use Rattle.open_table.specs.Rows.{anyOnFile}
 use Rattle.sharing.specs.Sharing.{anyConflict}
-use Rattle.format.specs.Format.{freshVolume, checkedMasks}
-use Rattle.store.specs.Complete.{View, Decision, newOpen, openReply, changed, decide, Closing, decideClose}
-use Rattle.store.specs.Store.{hasHandle}
+use Rattle.store.specs.{Complete.{View, Decision, newOpen, openReply, changed, decide, Closing, decideClose}, Store.hasHandle}
 
 pub record Model : Type 0 where
   pub namespace : Namespace

@@ -1,33 +1,10 @@
 -- Step 9 and the access part of steps 10 and 11: what an open would do, once its target is found and before its sharing is
 -- checked.
-use Prim.Native.Nat.{ℕ}
-use mathlib.Core.Bool.{Bool, true, false, cond, not, _&&_, _||_}
-use mathlib.Core.List.{List, [], _∷_}
-use mathlib.Core.Option.{Option, none, some}
-use lib.Bits.{bitAnd, bitOr}
-use lib.Dec.{eqb}
-use Rattle.bits.specs.Bits.{within, has, without}
-use Rattle.lists.specs.Lists.{isEmpty, oneOf}
-use Rattle.records.specs.Constants.{supersede, openOnly, openIf, disallowExclusive, hidden, system, directory, archive, temporary, notContentIndexed, writeData, addFile, addSubdirectory, delete, allAccess, fileGenericWrite, maximumAllowed, shareRead}
-use Rattle.records.specs.Slots.{maskOf}
-use Rattle.records.specs.Terms.{Terms}
-use Rattle.tables.specs.Tables.{fileAt}
-use Rattle.records.specs.Namespace.{Namespace}
-use Rattle.records.specs.Checked.{Checked, passed, _>>=_, _>>_, refuseIf}
-use Rattle.records.specs.declared.Status.the-variants.{InvalidParameter, AccessDenied, MediaWriteProtected}
-use Rattle.records.specs.declared.CreateAction.{CreateAction}
-use Rattle.records.specs.declared.CreateAction.the-variants.{Superseded, Opened, Overwritten}
-use Rattle.records.specs.declared.FileType.{FileType}
-use Rattle.records.specs.declared.FileType.the-variants.{Data, Directory}
-use Rattle.records.specs.declared.FileNo.{FileNo}
-use Rattle.records.specs.declared.StreamNo.{StreamNo}
-use Rattle.records.specs.declared.File.{File}
-use Rattle.records.specs.declared.Request.{Request}
-use Rattle.paths.specs.Paths.{Leaf}
-use Rattle.lookup.specs.Lookup.{Resolved}
+use Rattle.base.specs.Base.{ℕ, Bool, cond, not, _&&_, _||_, List, [], _∷_, Option, none, some, bitAnd, bitOr, eqb, within, has, without, isEmpty, oneOf, supersede, openOnly, openIf, disallowExclusive, hidden, system, directory, archive, temporary, notContentIndexed, writeData, addFile, addSubdirectory, delete, allAccess, fileGenericWrite, maximumAllowed, shareRead, maskOf, Terms, Namespace, Checked, passed, _>>=_, _>>_, refuseIf, InvalidParameter, AccessDenied, MediaWriteProtected, CreateAction, Superseded, Opened, Overwritten, FileType, Data, Directory, FileNo, StreamNo, File, Request}
 use Rattle.access.specs.Access.{accessRule, checkedAccess}
-use Rattle.store.specs.Request.{wantsDirectory}
-use Rattle.store.specs.Target.{Target, existingDirectory, existingStream, missingStream, missingFile, target}
+use Rattle.paths.specs.Paths.{Leaf}
+use Rattle.tables.specs.Tables.{fileAt}
+use Rattle.store.specs.{Request.wantsDirectory, Target.{Target, existingDirectory, existingStream, missingStream, missingFile, target}}
 
 -- what step 10 does to a directory's open when the directory has no open at all
 pub data ReadSharing : Type 0 where

@@ -1,11 +1,5 @@
 -- Steps 1, 2, 3 and 5: what is refused by the request's numbers alone.
-use mathlib.Core.Bool.{Bool, not, _&&_, _||_}
-use mathlib.Core.List.{[], _∷_}
-use lib.Dec.{eqb, ltb}
-use Rattle.bits.specs.Bits.{within, has}
-use Rattle.lists.specs.Lists.{oneOf}
-use Rattle.records.specs.Constants.{supersede, create, overwrite, overwriteIf, directoryFile, nonDirectoryFile, appendData}
-use Rattle.records.specs.declared.Request.{Request}
+use Rattle.base.specs.Base.{Bool, not, _&&_, _||_, [], _∷_, eqb, ltb, within, has, oneOf, supersede, create, overwrite, overwriteIf, directoryFile, nonDirectoryFile, appendData, Request}
 
 -- a directory is asked for; a file that is no directory is asked for
 unfoldable pub wantsDirectory : Request → Bool

@@ -1,31 +1,10 @@
 -- Demand 3: the statement about every sequence of calls from a freshly formatted volume.
-use Prim.Native.Nat.{ℕ, zero, suc, _<_}
-use mathlib.Core.Path.{_≡_}
-use mathlib.Core.Bool.{Bool, true, false, not}
-use mathlib.Core.List.{List, [], _∷_}
-use mathlib.Core.Logic.{_↔_}
-use lib.Dec.{eqb}
-use lib.ListN.{length}
-use Rattle.lists.specs.Lists.{any, pairs, Permutation}
-use Rattle.records.specs.Numbers.{Reply, seen, statusNumber}
-use Rattle.records.specs.State.{Tables}
-use Rattle.tables.specs.Tables.{streamAt}
-use Rattle.records.specs.Namespace.{namespace}
-use Rattle.records.specs.Checked.{passed}
-use Rattle.records.specs.declared.Status.the-variants.{FileCorruptError, SharingViolation}
-use Rattle.records.specs.declared.Outcome.{Outcome}
-use Rattle.records.specs.declared.Outcome.the-variants.{Success, Done, Refused}
-use Rattle.records.specs.declared.StreamNo.{StreamNo}
-use Rattle.records.specs.declared.Request.{Request}
-use Rattle.sharing.specs.Sharing.{anyConflict, countsOf, shareCheck}
-use Rattle.consistency.specs.Relations.{live}
-use Rattle.consistency.specs.Consistent.{Consistent}
-use Rattle.consistency.specs.Good.{opensAgree}
+use Rattle.base.specs.Base.{ℕ, zero, suc, _<_, _≡_, Bool, true, false, not, List, [], _∷_, _↔_, eqb, length, any, pairs, Permutation, Reply, seen, statusNumber, Tables, namespace, passed, FileCorruptError, SharingViolation, Outcome, Success, Done, Refused, StreamNo, Request}
+use Rattle.consistency.specs.{Relations.live, Consistent.Consistent, Good.opensAgree}
 use Rattle.format.specs.Format.{format}
-use Rattle.store.specs.Prepare.{Existing, existing, prepare}
-use Rattle.store.specs.Store.{storeOpen}
-use Rattle.store.specs.Model.{Model, modelFormat}
-use Rattle.store.specs.Calls.{Call, Run, run, storeStep, modelStep}
+use Rattle.sharing.specs.Sharing.{anyConflict, countsOf, shareCheck}
+use Rattle.tables.specs.Tables.{streamAt}
+use Rattle.store.specs.{Prepare.{Existing, existing, prepare}, Store.storeOpen, Model.{Model, modelFormat}, Calls.{Call, Run, run, storeStep, modelStep}}
 
 -- the reply that the tables contradict themselves
 unfoldable pub isCorrupt : Reply → Bool

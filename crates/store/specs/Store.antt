@@ -1,29 +1,10 @@
 -- The object store (the paper's desk): open, close and set_read_only on the tables. A refusal leaves every table as it
 -- was.
-use Prim.Native.Nat.{ℕ, suc}
-use mathlib.Core.Bool.{Bool, not, _&&_, _||_}
-use mathlib.Core.List.{List, [], _∷_}
-use mathlib.Core.Option.{Option, none, some}
-use lib.Dec.{eqb}
-use lib.ListN.{set}
-use Rattle.lists.specs.Lists.{any, find, first, firstFree, writes}
-use Rattle.records.specs.Slots.{zeroOpen, openUsed}
-use Rattle.tables.specs.Tables.{streamAt}
+use Rattle.base.specs.Base.{ℕ, suc, Bool, not, _&&_, List, [], _∷_, Option, none, some, eqb, set, any, find, first, firstFree, writes, zeroOpen, openUsed, BareStream, bare, withCounts, namespace, Checked, passed, _>>=_, _>>_, refuseIf, Tables, Step, done, concluded, FileCorruptError, StreamNo, Handle, ShareCounts, Stream, Open, Volume, Request}
+use Rattle.consistency.specs.{Relations.live, Test.consistent}
 use Rattle.open_table.specs.Rows.{anyOnFile}
-use Rattle.records.specs.Namespace.{BareStream, bare, withCounts, namespace}
-use Rattle.records.specs.Checked.{Checked, passed, _>>=_, _>>_, refuseIf}
-use Rattle.records.specs.State.{Tables, Step, done, concluded}
-use Rattle.records.specs.declared.Status.the-variants.{FileCorruptError}
-use Rattle.records.specs.declared.StreamNo.{StreamNo}
-use Rattle.records.specs.declared.Handle.{Handle}
-use Rattle.records.specs.declared.ShareCounts.{ShareCounts}
-use Rattle.records.specs.declared.Stream.{Stream}
-use Rattle.records.specs.declared.Open.{Open}
-use Rattle.records.specs.declared.Volume.{Volume}
-use Rattle.records.specs.declared.Request.{Request}
 use Rattle.sharing.specs.Sharing.{shareCheck, withOpen, withoutOpen}
-use Rattle.consistency.specs.Relations.{live}
-use Rattle.consistency.specs.Test.{consistent}
+use Rattle.tables.specs.Tables.{streamAt}
 use Rattle.store.specs.Complete.{View, Change, Decision, newOpen, openReply, decide, Closing, decideClose}
 
 -- an open that has the handle

@@ -1,22 +1,9 @@
 -- Steps 1 to 8, and the stream of steps 10 and 11: what an open leads to, found without looking at the opens.
-use Prim.Native.Nat.{ℕ}
-use mathlib.Core.Bool.{Bool, true, false, cond, not, _&&_, _||_}
-use mathlib.Core.List.{List, [], _∷_}
-use mathlib.Core.Option.{Option, none, some}
-use lib.Dec.{eqb}
-use Rattle.lists.specs.Lists.{oneOf}
-use Rattle.records.specs.Constants.{openOnly, create, openIf, overwrite}
-use Rattle.records.specs.Slots.{isDirectory}
-use Rattle.tables.specs.Tables.{fileAt}
-use Rattle.records.specs.Namespace.{Namespace}
-use Rattle.records.specs.Checked.{Checked, passed, _>>=_, _>>_, refuseIf, someOr}
-use Rattle.records.specs.declared.Status.the-variants.{FileCorruptError, InvalidParameter, AccessDenied, MediaWriteProtected, ObjectNameNotFound, ObjectNameCollision, FileIsADirectory, NotADirectory}
-use Rattle.records.specs.declared.FileNo.{FileNo}
-use Rattle.records.specs.declared.StreamNo.{StreamNo}
-use Rattle.records.specs.declared.Request.{Request}
-use Rattle.paths.specs.Paths.{Leaf, parsePath}
+use Rattle.base.specs.Base.{ℕ, Bool, true, false, cond, not, _&&_, _||_, List, [], _∷_, Option, none, some, eqb, oneOf, openOnly, create, openIf, overwrite, isDirectory, Namespace, Checked, passed, _>>=_, _>>_, refuseIf, someOr, FileCorruptError, InvalidParameter, AccessDenied, MediaWriteProtected, ObjectNameNotFound, ObjectNameCollision, FileIsADirectory, NotADirectory, FileNo, StreamNo, Request}
 use Rattle.lookup.specs.Lookup.{Resolved, Place, found, missing, locate}
+use Rattle.paths.specs.Paths.{Leaf, parsePath}
 use Rattle.stream_lookup.specs.StreamLookup.{findStream}
+use Rattle.tables.specs.Tables.{fileAt}
 use Rattle.store.specs.Request.{wantsDirectory, wantsFile, badParameters, badAccess, wantsBoth, writesVolume}
 
 -- a stream that is there, or what is missing

@@ -1,18 +1,7 @@
 -- Laws of stored names: their units by places.
-use Prim.Native.Nat.{ℕ, zero, suc, _+_, _≤_, _<_}
-use mathlib.Core.Path.{_≡_, refl, sym, _∙_}
-use mathlib.Core.Bool.{Bool, true, false}
-use mathlib.Core.List.{List, [], _∷_}
+use Rattle.base.{specs.Base.{ℕ, zero, suc, _+_, _≤_, _<_, _≡_, Bool, true, false, List, [], _∷_, eqb, length, getD, drop, same}, proofs.Laws.{refl, sym, _∙_, arith, drop-of-length-le, eqb-true, eqb-false, drop-next, same-differs, same-tail}}
 use native.Mathlib.Numerals.{add-one}
-use native.Mathlib.Omega.{arith}
-use lib.Dec.{eqb}
-use lib.ListN.{length, getD, drop, drop-of-length-le}
-use borrow.Author.Tests.{eqb-true, eqb-false}
-use Rattle.lists.specs.Lists.{same}
-use Rattle.lists.proofs.Places.{drop-next}
-use Rattle.lists.proofs.Same.{same-differs, same-tail}
-use Rattle.units.specs.Units.{folded, equalUnits}
-use Rattle.units.proofs.Compare.{equal-tail, equal-differs}
+use Rattle.units.{specs.Units.{folded, equalUnits}, proofs.Compare.{equal-tail, equal-differs}}
 use Rattle.stored_names.specs.StoredNames.{units}
 
 -- from a zero, or from the end on, there are no units

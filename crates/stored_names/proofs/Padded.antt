@@ -1,17 +1,7 @@
 -- A valid name as it is stored, with zeros after it: its units are the name again, and it is well stored.
-use Prim.Native.Nat.{ℕ, zero, suc, _-_}
-use mathlib.Core.Path.{_≡_, refl, ap}
-use mathlib.Core.Bool.{true, not, _&&_, false≢true}
-use mathlib.Core.List.{List, [], _∷_, _++_}
-use mathlib.Core.Logic.{_≢_}
-use native.Mathlib.Omega.{arith}
-use lib.Dec.{leb}
-use lib.ListN.{length, getD, replicate}
-use Rattle.lists.specs.Lists.{all, isEmpty, same, padded}
-use Rattle.lists.proofs.Tests.{and-right}
-use Rattle.lists.proofs.Same.{same-self}
-use Rattle.units.specs.Units.{dot}
+use Rattle.base.{specs.Base.{ℕ, zero, suc, _-_, _≡_, true, not, _&&_, List, [], _∷_, _++_, _≢_, leb, length, getD, replicate, all, isEmpty, same, padded}, proofs.Laws.{refl, ap, false≢true, arith, and-right, same-self}}
 use Rattle.names.specs.Names.{validUnit, validFileName, validStreamName}
+use Rattle.units.specs.Units.{dot}
 use Rattle.stored_names.specs.StoredNames.{units, wellStored}
 
 -- a valid name's units are valid, each for itself

@@ -1,8 +1,5 @@
 -- How a name stands in a record.
-use Prim.Native.Nat.{ℕ, zero, suc}
-use mathlib.Core.Bool.{Bool}
-use mathlib.Core.List.{List, [], _∷_}
-use Rattle.lists.specs.Lists.{padded, same}
+use Rattle.base.specs.Base.{ℕ, zero, suc, Bool, List, [], _∷_, padded, same}
 
 -- the units of a stored name: those before the first zero
 unfoldable pub units : List ℕ → List ℕ

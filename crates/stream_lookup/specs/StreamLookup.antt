@@ -1,17 +1,8 @@
 -- From a file and a name to a stream of the file (steps 10 and 11), matched as in step 6. The lowest matching slot wins.
-use Prim.Native.Nat.{ℕ}
-use mathlib.Core.Bool.{Bool, _&&_}
-use mathlib.Core.List.{List}
-use mathlib.Core.Option.{Option, none, some}
-use lib.Dec.{eqb}
-use Rattle.lists.specs.Lists.{first}
-use Rattle.records.specs.Namespace.{Namespace, BareStream, bareUsed}
-use Rattle.records.specs.declared.FileNo.{FileNo}
-use Rattle.records.specs.declared.StreamNo.{StreamNo}
-use Rattle.units.specs.Units.{equalUnits}
+use Rattle.base.specs.Base.{ℕ, Bool, _&&_, List, Option, none, some, eqb, first, Namespace, BareStream, bareUsed, FileNo, StreamNo}
 use Rattle.stored_names.specs.StoredNames.{units}
-use Rattle.stream_lookup.specs.declared.FoundStream.{FoundStream}
-use Rattle.stream_lookup.specs.declared.FoundStream.the-variants.{At, Missing}
+use Rattle.units.specs.Units.{equalUnits}
+use Rattle.stream_lookup.specs.declared.FoundStream.{FoundStream, the-variants.{At, Missing}}
 
 -- a stream of the file whose name matches
 unfoldable pub streamMatches : Bool → FileNo → List ℕ → BareStream → Bool

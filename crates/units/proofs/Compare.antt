@@ -1,12 +1,5 @@
 -- Laws of equalUnits, for loops that compare unit by unit.
-use Prim.Native.Nat.{ℕ, _+_, _≤_, _<_}
-use mathlib.Core.Path.{_≡_, sym, ap, _∙_}
-use mathlib.Core.Bool.{Bool, true, false}
-use mathlib.Core.List.{List, _∷_, map}
-use lib.ListN.{length, getD, drop, drop-of-length-le, length-map}
-use Rattle.lists.specs.Lists.{same}
-use Rattle.lists.proofs.Places.{drop-next}
-use Rattle.lists.proofs.Same.{same-self, same-tail, same-differs, same-lengths}
+use Rattle.base.{specs.Base.{ℕ, _+_, _≤_, _<_, _≡_, Bool, true, false, List, _∷_, map, length, getD, drop, same}, proofs.Laws.{sym, ap, _∙_, drop-of-length-le, length-map, drop-next, same-self, same-tail, same-differs, same-lengths}}
 use Rattle.units.specs.Units.{folded, equalUnits}
 
 module _ (fold : Bool) where

@@ -1,9 +1,5 @@
 -- UTF-16 units: the signs with a meaning, and comparison exactly or with a to z folded to A to Z (step 6).
-use Prim.Native.Nat.{ℕ, _-_}
-use mathlib.Core.Bool.{Bool, cond, _&&_}
-use mathlib.Core.List.{List, [], _∷_, map}
-use lib.Dec.{leb}
-use Rattle.lists.specs.Lists.{same}
+use Rattle.base.specs.Base.{ℕ, _-_, Bool, cond, _&&_, List, [], _∷_, map, leb, same}
 
 abbrev pub backslash : ℕ
 backslash = 0x5C

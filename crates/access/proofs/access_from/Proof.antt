@@ -1,8 +1,7 @@
 -- `access::access_from` meets its contract: each way through the tests is one case of the definition.
-use mathlib.Core.Logic.{⊎-elim}
-use borrow.Author.Needs.{needs}
-use Rattle.access.specs.Access.{accessFrom}
+use Rattle.base.proofs.Laws.{⊎-elim, needs}
 use Rattle.access.proofs.access_from.Statement.{statement}
+use Rattle.access.specs.Access.{accessFrom}
 use Rattle.access.proofs.access_from.Tie as tie
 
 need-requires : tie.Need-need-requires

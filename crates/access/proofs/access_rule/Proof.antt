@@ -1,7 +1,7 @@
 -- `access::access_rule` meets its contract: the code is the definition.
-use borrow.Author.Needs.{needs}
-use Rattle.access.specs.Access.{accessRule}
+use Rattle.base.proofs.Laws.{needs}
 use Rattle.access.proofs.access_rule.Statement.{statement}
+use Rattle.access.specs.Access.{accessRule}
 use Rattle.access.proofs.access_rule.Tie as tie
 
 effective-requires : tie.Need-effective-requires

@@ -1,8 +1,7 @@
 -- `access::effective` meets its contract: each way through the two tests is one case of the definition.
-use mathlib.Core.Logic.{⊎-elim}
-use borrow.Author.Needs.{needs}
-use Rattle.access.specs.Access.{effective}
+use Rattle.base.proofs.Laws.{⊎-elim, needs}
 use Rattle.access.proofs.effective.Statement.{statement}
+use Rattle.access.specs.Access.{effective}
 use Rattle.access.proofs.effective.Tie as tie
 
 mask-of-requires : tie.Need-mask-of-requires

@@ -1,17 +1,9 @@
 -- `access::is_data` meets its contract, by the three cases.
-use mathlib.Core.Path.{_≡_, refl}
-use mathlib.Core.Bool.{false}
-use mathlib.Core.List.{[], _∷_}
-use mathlib.Core.Logic.{⊎-elim}
-use native.Mathlib.Omega.{arith}
-use types.Run.{OneOf}
+use Rattle.base.{specs.Base.{_≡_, false, [], _∷_, isData, FileType, Unused, Data, Directory}, proofs.Laws.{refl, ⊎-elim, arith, needs}}
 use denote.Enum.Declared.{tagOf}
-use borrow.Author.Needs.{needs}
-use Rattle.records.specs.Slots.{isData}
-use Rattle.records.specs.declared.FileType.{FileType}
-use Rattle.records.specs.declared.FileType.the-variants.{Unused, Data, Directory}
-use Rattle.records.proofs.FileType as FileTypeT
+use types.Run.{OneOf}
 use Rattle.access.proofs.is_data.Statement.{statement}
+use Rattle.records.proofs.FileType as FileTypeT
 use Rattle.access.proofs.is_data.Tie as tie
 
 -- the arm of two types

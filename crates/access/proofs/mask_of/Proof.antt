@@ -1,11 +1,7 @@
 -- `access::mask_of` meets its contract: an account past the last is past the masks' end, where the definition
 -- says 0.
-use mathlib.Core.Path.{refl, sym}
-use native.Mathlib.Omega.{arith}
-use lib.ListN.{List·getD-eq-default}
-use borrow.Author.Needs.{needs}
+use Rattle.base.{proofs.Laws.{refl, sym, arith, List·getD-eq-default, needs}, specs.Base.maskOf}
 use Rattle.records.proofs.Lengths.{masks-length}
-use Rattle.records.specs.Slots.{maskOf}
 use Rattle.access.proofs.mask_of.Statement.{statement}
 use Rattle.access.proofs.mask_of.Tie as tie
 

@@ -1,7 +1,7 @@
 -- `access::need` meets its contract: the code is the definition.
-use borrow.Author.Needs.{needs}
-use Rattle.access.specs.Access.{need}
+use Rattle.base.proofs.Laws.{needs}
 use Rattle.access.proofs.need.Statement.{statement}
+use Rattle.access.specs.Access.{need}
 use Rattle.access.proofs.need.Tie as tie
 
 without-requires : tie.Need-without-requires

@@ -1,9 +1,6 @@
 -- `audit::audit` meets its contract: the six tests are the parts of the whole.
-use mathlib.Core.Path.{_≡_, sym, _∙_}
-use mathlib.Core.Bool.{Bool, true, false, not}
-use borrow.Author.Tests.{not-true, not-false}
+use Rattle.base.{specs.Base.{_≡_, Bool, true, false, not}, proofs.Laws.{sym, _∙_, not-true, not-false, needs}}
 use Rattle.consistency.specs.Test.{consistent}
-use borrow.Author.Needs.{needs}
 use Rattle.audit.proofs.audit.Statement.{statement}
 use Rattle.audit.proofs.audit.Tie as tie
 

@@ -1,7 +1,7 @@
 -- `audit_cases::run` is safe and ends. The loop's invariant: i is at most the length.
 use Prim.Native.Nat.{_≤_, _-_}
-use lib.ListN.{length}
 use borrow.Author.Needs.{needs}
+use lib.ListN.{length}
 use Rattle.audit_cases.proofs.run.Statement.{statement}
 use Rattle.audit_cases.proofs.run.Tie as tie
 

@@ -1,10 +1,7 @@
 -- `audit_conflicts::opens_agree` meets its contract.
-use mathlib.Core.Path.{ap}
-use mathlib.Core.Bool.{not}
-use borrow.Author.Tests.{eq-eqb, ne-eqb}
-use borrow.Author.Needs.{needs}
-use Rattle.audit_conflicts.proofs.opens_agree.Statement.{statement}
+use Rattle.base.{proofs.Laws.{ap, eq-eqb, ne-eqb, needs}, specs.Base.not}
 use Rattle.consistency.specs.Good.{opensAgree}
+use Rattle.audit_conflicts.proofs.opens_agree.Statement.{statement}
 use Rattle.audit_conflicts.proofs.opens_agree.Tie as tie
 
 conflicting-requires : tie.Need-conflicting-requires

@@ -1,19 +1,9 @@
 -- `audit_counts::counts_of_streams` meets its contract: at the loop's head the counts are those of the rows from
 -- i on.
-use Prim.Native.Nat.{ℕ, _-_, _≤_}
-use mathlib.Core.Path.{_≡_, refl, sym, _∙_, ap}
-use mathlib.Core.Logic.{⊎-elim, inl, inr}
-use native.Mathlib.Omega.{arith}
-use lib.ListN.{length, getD, drop, length-set, length-drop}
-use borrow.Author.Needs.{needs}
-use borrow.Author.Tests.{ltb-true, ltb-false}
-use Rattle.records.specs.Sizes.{streamSlots, openSlots}
-use Rattle.lists.proofs.Keyed.{Noted, back-skip, back-set}
-use Rattle.records.specs.Slots.{zeroCounts, zeroOpen, openUsed}
+use Rattle.base.{specs.Base.{ℕ, _-_, _≤_, _≡_, inl, inr, length, getD, drop, streamSlots, openSlots, zeroCounts, zeroOpen, openUsed}, proofs.Laws.{refl, sym, _∙_, ap, ⊎-elim, arith, length-set, length-drop, needs, ltb-true, ltb-false, Noted, back-skip, back-set}}
 use Rattle.records.proofs.Lengths.{rows-length}
 use Rattle.sharing.specs.Saturating.{withOpenUpTo}
-use Rattle.audit_counts.proofs.CountsScan.{streamNo, countsOn, none-counted, counts-own, counts-other}
-use Rattle.audit_counts.proofs.counts_of_streams.Statement.{statement}
+use Rattle.audit_counts.proofs.{CountsScan.{streamNo, countsOn, none-counted, counts-own, counts-other}, counts_of_streams.Statement.statement}
 use Rattle.audit_counts.proofs.counts_of_streams.Tie as tie
 
 abbrev Inv-loop : tie.InvT-loop

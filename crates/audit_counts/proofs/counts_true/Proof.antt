@@ -1,17 +1,7 @@
 -- `audit_counts::counts_true` meets its contract. The invariant: what is asked is what the streams from i on say.
-use Prim.Native.Nat.{_-_}
-use mathlib.Core.Path.{_≡_, refl, sym, _∙_}
-use native.Mathlib.Omega.{arith}
-use lib.ListN.{drop}
-use borrow.Author.Needs.{needs}
-use borrow.Author.Tests.{not-true, not-false}
-use Rattle.lists.specs.Lists.{allFrom}
-use Rattle.lists.proofs.All.{numbered-stops, numbered-next, numbered-end}
-use Rattle.records.specs.Sizes.{streamSlots}
-use Rattle.records.proofs.Lengths.{streams-length}
-use Rattle.records.proofs.Elements.{arraylessStream}
-use Rattle.audit_counts.proofs.CountsScan.{foundTest, counts-found}
-use Rattle.audit_counts.proofs.counts_true.Statement.{statement}
+use Rattle.base.{specs.Base.{_-_, _≡_, drop, allFrom, streamSlots}, proofs.Laws.{refl, sym, _∙_, arith, needs, not-true, not-false, numbered-stops, numbered-next, numbered-end}}
+use Rattle.records.proofs.{Lengths.streams-length, Elements.arraylessStream}
+use Rattle.audit_counts.proofs.{CountsScan.{foundTest, counts-found}, counts_true.Statement.statement}
 use Rattle.audit_counts.proofs.counts_true.Tie as tie
 
 abbrev Inv-loop : tie.InvT-loop

@@ -1,5 +1,5 @@
 -- `audit_counts::same_counts` meets its contract.
-use mathlib.Core.Path.{refl}
+use Rattle.base.proofs.Laws.{refl}
 use Rattle.consistency.specs.Test.{sameCounts}
 use Rattle.audit_counts.proofs.same_counts.Statement.{statement}
 use Rattle.audit_counts.proofs.same_counts.Tie as tie

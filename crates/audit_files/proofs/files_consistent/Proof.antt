@@ -1,24 +1,9 @@
 -- `audit_files::files_consistent` meets its contract. The invariant: the root is a directory, and what is
 -- asked is what the rest of the table says.
-use Prim.Native.Nat.{_-_}
-use mathlib.Core.Path.{_≡_, sym, ap, _∙_}
-use mathlib.Core.Bool.{Bool}
-use native.Mathlib.Omega.{arith}
-use lib.ListN.{drop}
-use borrow.Author.Needs.{needs}
-use borrow.Author.Tests.{eq-eqb, not-true, not-false}
-use Rattle.lists.specs.Lists.{all}
-use Rattle.lists.proofs.Places.{getD-default}
-use Rattle.lists.proofs.All.{all-end, all-fails, all-next}
-use Rattle.records.specs.Sizes.{fileSlots}
-use Rattle.records.specs.Slots.{zeroFile, isDirectory, fileUsed}
+use Rattle.base.{specs.Base.{_-_, _≡_, Bool, drop, all, fileSlots, zeroFile, isDirectory, fileUsed, File}, proofs.Laws.{sym, ap, _∙_, arith, needs, eq-eqb, not-true, not-false, getD-default, all-end, all-fails, all-next}}
+use Rattle.consistency.specs.{Slots.{slotTest, slotsTest}, Good.{goodFile, isZeroFile}, Test.filesTest}
+use Rattle.records.proofs.{Lengths.files-length, Elements.arraylessFile}
 use Rattle.tables.specs.Tables.{fileAt}
-use Rattle.records.specs.declared.File.{File}
-use Rattle.records.proofs.Lengths.{files-length}
-use Rattle.records.proofs.Elements.{arraylessFile}
-use Rattle.consistency.specs.Slots.{slotTest, slotsTest}
-use Rattle.consistency.specs.Good.{goodFile, isZeroFile}
-use Rattle.consistency.specs.Test.{filesTest}
 use Rattle.audit_files.proofs.files_consistent.Statement.{statement}
 use Rattle.audit_files.proofs.files_consistent.Tie as tie
 

@@ -1,7 +1,6 @@
 -- `audit_files::good_file` meets its contract: each test is one part of the definition.
+use Rattle.base.proofs.Laws.{needs, not-true, not-false}
 use mathlib.Core.Bool.{Bool·beq}
-use borrow.Author.Needs.{needs}
-use borrow.Author.Tests.{not-true, not-false}
 use Rattle.consistency.specs.Good.{goodFile}
 use Rattle.audit_files.proofs.good_file.Statement.{statement}
 use Rattle.audit_files.proofs.good_file.Tie as tie

@@ -1,6 +1,5 @@
 -- `audit_files::is_zero_file` meets its contract: the code is the definition.
-use borrow.Author.Needs.{needs}
-use borrow.Author.Tests.{eq-eqb, ne-eqb}
+use Rattle.base.proofs.Laws.{needs, eq-eqb, ne-eqb}
 use Rattle.consistency.specs.Good.{isZeroFile}
 use Rattle.audit_files.proofs.is_zero_file.Statement.{statement}
 use Rattle.audit_files.proofs.is_zero_file.Tie as tie

@@ -1,5 +1,5 @@
 -- `audit_files::slot_consistent` meets its contract: the code is the definition.
-use borrow.Author.Needs.{needs}
+use Rattle.base.proofs.Laws.{needs}
 use Rattle.audit_files.proofs.slot_consistent.Statement.{statement}
 use Rattle.audit_files.proofs.slot_consistent.Tie as tie
 

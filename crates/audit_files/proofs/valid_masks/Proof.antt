@@ -1,16 +1,6 @@
 -- `audit_files::valid_masks` meets its contract. The invariant: what is asked is what the rest of the masks
 -- say.
-use Prim.Native.Nat.{ℕ, _-_}
-use mathlib.Core.Path.{_≡_, sym, _∙_}
-use mathlib.Core.Bool.{Bool}
-use native.Mathlib.Omega.{arith}
-use lib.ListN.{length, drop}
-use borrow.Author.Needs.{needs}
-use borrow.Author.Tests.{eq-eqb, not-true, not-false}
-use Rattle.bits.specs.Bits.{within}
-use Rattle.lists.specs.Lists.{all}
-use Rattle.lists.proofs.All.{all-end, all-fails, all-next}
-use Rattle.records.specs.Constants.{allAccess}
+use Rattle.base.{specs.Base.{ℕ, _-_, _≡_, Bool, length, drop, within, all, allAccess}, proofs.Laws.{sym, _∙_, arith, needs, eq-eqb, not-true, not-false, all-end, all-fails, all-next}}
 use Rattle.consistency.specs.Relations.{validMasks}
 use Rattle.audit_files.proofs.valid_masks.Statement.{statement}
 use Rattle.audit_files.proofs.valid_masks.Tie as tie

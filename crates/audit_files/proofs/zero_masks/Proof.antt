@@ -1,12 +1,6 @@
 -- `audit_files::zero_masks` meets its contract. The invariant: what is asked is what the rest of the masks
 -- say.
-use Prim.Native.Nat.{ℕ, _-_}
-use mathlib.Core.Path.{_≡_, sym, _∙_}
-use native.Mathlib.Omega.{arith}
-use lib.ListN.{drop, replicate, getD-replicate}
-use borrow.Author.Needs.{needs}
-use Rattle.lists.specs.Lists.{same}
-use Rattle.lists.proofs.Same.{same-next, same-stops, same-end}
+use Rattle.base.{specs.Base.{ℕ, _-_, _≡_, drop, replicate, same}, proofs.Laws.{sym, _∙_, arith, getD-replicate, needs, same-next, same-stops, same-end}}
 use Rattle.audit_files.proofs.zero_masks.Statement.{statement}
 use Rattle.audit_files.proofs.zero_masks.Tie as tie
 

@@ -1,13 +1,7 @@
 -- `audit_links::differ` meets its contract: each way through the tests is one case of the definition.
-use mathlib.Core.Path.{sym, ap, _∙_}
-use mathlib.Core.Bool.{not}
-use borrow.Author.Needs.{needs}
-use borrow.Author.Tests.{not-false}
-use Rattle.lists.proofs.Tests.{or-left, or-right}
-use Rattle.records.specs.Slots.{linkUsed}
-use Rattle.audit_links.proofs.LinksScan.{parents-differ, parents-same}
-use Rattle.audit_links.proofs.differ.Statement.{statement}
+use Rattle.base.{proofs.Laws.{sym, ap, _∙_, needs, not-false, or-left, or-right}, specs.Base.{not, linkUsed}}
 use Rattle.consistency.specs.Good.{linkNamesDiffer}
+use Rattle.audit_links.proofs.{LinksScan.{parents-differ, parents-same}, differ.Statement.statement}
 use Rattle.audit_links.proofs.differ.Tie as tie
 
 returns : tie.Need-returns

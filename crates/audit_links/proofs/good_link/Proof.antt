@@ -1,6 +1,5 @@
 -- `audit_links::good_link` meets its contract: each test is one part of what is asked.
-use borrow.Author.Needs.{needs}
-use borrow.Author.Tests.{not-true, not-false}
+use Rattle.base.proofs.Laws.{needs, not-true, not-false}
 use Rattle.consistency.specs.Good.{goodLink}
 use Rattle.audit_links.proofs.good_link.Statement.{statement}
 use Rattle.audit_links.proofs.good_link.Tie as tie

@@ -1,10 +1,7 @@
 -- `audit_links::is_zero_link` meets its contract: each test is one part of the definition.
-use mathlib.Core.Path.{_∙_}
-use borrow.Author.Needs.{needs}
-use borrow.Author.Tests.{eq-eqb, ne-eqb}
+use Rattle.base.proofs.Laws.{_∙_, needs, eq-eqb, ne-eqb}
 use Rattle.consistency.specs.Good.{isZeroLink}
-use Rattle.audit_links.proofs.LinksScan.{free-name}
-use Rattle.audit_links.proofs.is_zero_link.Statement.{statement}
+use Rattle.audit_links.proofs.{LinksScan.free-name, is_zero_link.Statement.statement}
 use Rattle.audit_links.proofs.is_zero_link.Tie as tie
 
 returns : tie.Need-returns

@@ -1,6 +1,5 @@
 -- `audit_links::link_slots_consistent` meets its contract: each pass is one part of the test.
-use borrow.Author.Needs.{needs}
-use borrow.Author.Tests.{not-true, not-false}
+use Rattle.base.proofs.Laws.{needs, not-true, not-false}
 use Rattle.audit_links.proofs.link_slots_consistent.Statement.{statement}
 use Rattle.audit_links.proofs.link_slots_consistent.Tie as tie
 

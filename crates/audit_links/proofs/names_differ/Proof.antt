@@ -1,25 +1,9 @@
 -- `audit_links::names_differ` meets its contract. The invariants: what is asked is what the pairs from i on
 -- say; and, within, what those of the link at i from j on and those after i say.
-use Prim.Native.Nat.{_+_, _-_}
-use mathlib.Core.Path.{_≡_, sym, ap, _∙_}
-use mathlib.Core.Bool.{Bool, not, _&&_, _||_}
-use mathlib.Core.Logic.{⊎-elim}
-use native.Mathlib.Omega.{arith}
-use lib.ListN.{getD, drop}
-use borrow.Author.Needs.{needs}
-use Rattle.lists.specs.Lists.{all, keep, pairs}
-use borrow.Author.Tests.{not-true, not-false}
-use Rattle.lists.proofs.All.{all-fails, all-next, all-end}
-use Rattle.lists.proofs.Keep.{all-keep, kept-past}
-use Rattle.lists.proofs.Pairs.{pairs-kept, pairs-kept-end}
-use Rattle.records.specs.Slots.{linkUsed}
-use Rattle.records.specs.declared.Link.{Link}
-use Rattle.records.specs.declared.Volume.{Volume}
-use Rattle.records.specs.Sizes.{linkSlots}
-use Rattle.records.proofs.Lengths.{links-length}
-use Rattle.records.proofs.Elements.{arraylessLink}
-use Rattle.audit_links.proofs.names_differ.Statement.{statement}
+use Rattle.base.{specs.Base.{_+_, _-_, _≡_, Bool, not, _&&_, _||_, getD, drop, all, keep, pairs, linkUsed, Link, Volume, linkSlots}, proofs.Laws.{sym, ap, _∙_, ⊎-elim, arith, needs, not-true, not-false, all-fails, all-next, all-end, all-keep, kept-past, pairs-kept, pairs-kept-end}}
 use Rattle.consistency.specs.Good.{linkNamesDiffer}
+use Rattle.records.proofs.{Lengths.links-length, Elements.arraylessLink}
+use Rattle.audit_links.proofs.names_differ.Statement.{statement}
 use Rattle.audit_links.proofs.names_differ.Tie as tie
 
 -- all pairs of the links, and those from i on

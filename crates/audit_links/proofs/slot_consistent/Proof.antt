@@ -1,6 +1,5 @@
 -- `audit_links::slot_consistent` meets its contract: the code is the definition.
-use mathlib.Core.Path.{sym, _∙_}
-use borrow.Author.Needs.{needs}
+use Rattle.base.proofs.Laws.{sym, _∙_, needs}
 use Rattle.audit_links.proofs.slot_consistent.Statement.{statement}
 use Rattle.audit_links.proofs.slot_consistent.Tie as tie
 

@@ -1,18 +1,8 @@
 -- `audit_links::slots_consistent` meets its contract. The invariant: what is asked is what the rest of the
 -- table says.
-use Prim.Native.Nat.{_-_}
-use mathlib.Core.Path.{_≡_, sym, _∙_}
-use native.Mathlib.Omega.{arith}
-use lib.ListN.{getD, drop}
-use borrow.Author.Needs.{needs}
-use Rattle.lists.specs.Lists.{all}
-use borrow.Author.Tests.{not-true, not-false}
-use Rattle.lists.proofs.All.{all-end, all-fails, all-next}
-use Rattle.records.specs.Sizes.{linkSlots}
-use Rattle.records.proofs.Lengths.{files-length, links-length}
-use Rattle.records.proofs.Elements.{arraylessFile, arraylessLink}
-use Rattle.audit_links.proofs.LinksScan.{linkTest, past-file, past-parent, slot-is}
-use Rattle.audit_links.proofs.slots_consistent.Statement.{statement}
+use Rattle.base.{specs.Base.{_-_, _≡_, getD, drop, all, linkSlots}, proofs.Laws.{sym, _∙_, arith, needs, not-true, not-false, all-end, all-fails, all-next}}
+use Rattle.records.proofs.{Lengths.{files-length, links-length}, Elements.{arraylessFile, arraylessLink}}
+use Rattle.audit_links.proofs.{LinksScan.{linkTest, past-file, past-parent, slot-is}, slots_consistent.Statement.statement}
 use Rattle.audit_links.proofs.slots_consistent.Tie as tie
 
 abbrev Inv-loop : tie.InvT-loop

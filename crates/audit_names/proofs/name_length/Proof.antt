@@ -1,12 +1,6 @@
 -- `audit_names::name_length` meets its contract. The loop's invariant: the length is the places passed and the units left.
-use Prim.Native.Nat.{_+_, _≤_, _-_}
-use mathlib.Core.Path.{_≡_, ap}
-use native.Mathlib.Omega.{arith}
-use lib.ListN.{length, drop, List·getD-eq-default}
-use borrow.Author.Needs.{needs}
-use Rattle.records.specs.Sizes.{fileNameLimit}
-use Rattle.stored_names.specs.StoredNames.{units}
-use Rattle.stored_names.proofs.NameUnits.{units-end, units-next}
+use Rattle.base.{specs.Base.{_+_, _≤_, _-_, _≡_, length, drop, fileNameLimit}, proofs.Laws.{ap, arith, List·getD-eq-default, needs}}
+use Rattle.stored_names.{specs.StoredNames.units, proofs.NameUnits.{units-end, units-next}}
 use Rattle.audit_names.proofs.name_length.Statement.{statement}
 use Rattle.audit_names.proofs.name_length.Tie as tie
 

@@ -1,16 +1,7 @@
 -- `audit_names::well_stored` meets its contract. The loop's invariant: the answer is whether all places left are zero.
-use Prim.Native.Nat.{_-_}
-use mathlib.Core.Path.{_≡_, sym, _∙_}
-use native.Mathlib.Omega.{arith}
-use lib.ListN.{drop}
-use borrow.Author.Needs.{needs}
-use borrow.Author.Tests.{eq-eqb, ne-eqb}
-use Rattle.lists.proofs.All.{all-fails, all-next, all-end}
-use Rattle.lists.specs.Lists.{all}
-use Rattle.records.specs.Sizes.{fileNameLimit}
+use Rattle.base.{specs.Base.{_-_, _≡_, drop, all, fileNameLimit}, proofs.Laws.{sym, _∙_, arith, needs, eq-eqb, ne-eqb, all-fails, all-next, all-end}}
 use Rattle.stored_names.specs.StoredNames.{wellStored}
-use Rattle.audit_names.proofs.StoredUnits.{isZero, well-stored}
-use Rattle.audit_names.proofs.well_stored.Statement.{statement}
+use Rattle.audit_names.proofs.{StoredUnits.{isZero, well-stored}, well_stored.Statement.statement}
 use Rattle.audit_names.proofs.well_stored.Tie as tie
 
 abbrev Inv-loop : tie.InvT-loop

@@ -1,21 +1,8 @@
 -- `audit_opens::all_handles_differ` meets its contract. The invariants: what is asked is what the rows from i on say;
 -- in a used row's own loop, that it agrees with the rows from j on, and what those after it say.
-use Prim.Native.Nat.{_-_, _+_}
-use mathlib.Core.Path.{_≡_, refl, sym, _∙_, ap}
-use mathlib.Core.Bool.{Bool, _&&_}
-use mathlib.Core.Logic.{⊎-elim}
-use native.Mathlib.Omega.{arith}
-use lib.ListN.{getD, drop}
-use borrow.Author.Tests.{not-true, not-false}
-use borrow.Author.Needs.{needs}
-use Rattle.lists.specs.Lists.{all, keep, pairs}
-use Rattle.lists.proofs.Keep.{kept-past, all-kept-fails, all-kept-next, all-kept-end}
-use Rattle.lists.proofs.Pairs.{pairs-kept, pairs-kept-end}
-use Rattle.records.specs.Sizes.{openSlots}
-use Rattle.records.specs.Slots.{openUsed, zeroOpen}
+use Rattle.base.{specs.Base.{_-_, _+_, _≡_, Bool, _&&_, getD, drop, all, keep, pairs, openSlots, openUsed, zeroOpen}, proofs.Laws.{refl, sym, _∙_, ap, ⊎-elim, arith, not-true, not-false, needs, kept-past, all-kept-fails, all-kept-next, all-kept-end, pairs-kept, pairs-kept-end}}
+use Rattle.consistency.specs.{Good.handlesDiffer, Relations.live}
 use Rattle.records.proofs.Lengths.{rows-length}
-use Rattle.consistency.specs.Good.{handlesDiffer}
-use Rattle.consistency.specs.Relations.{live}
 use Rattle.audit_opens.proofs.all_handles_differ.Statement.{statement}
 use Rattle.audit_opens.proofs.all_handles_differ.Tie as tie
 

@@ -1,7 +1,5 @@
 -- `audit_opens::good_open` meets its contract.
-use borrow.Author.Needs.{needs}
-use Rattle.records.specs.Slots.{streamUsed}
-use Rattle.records.specs.Namespace.{bare, bareUsed}
+use Rattle.base.{proofs.Laws.needs, specs.Base.{streamUsed, bare, bareUsed}}
 use Rattle.consistency.specs.Good.{goodOpen}
 use Rattle.audit_opens.proofs.good_open.Statement.{statement}
 use Rattle.audit_opens.proofs.good_open.Tie as tie

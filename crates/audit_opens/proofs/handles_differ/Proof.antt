@@ -1,7 +1,7 @@
 -- `audit_opens::handles_differ` meets its contract: the code is the definition.
-use mathlib.Core.Path.{refl}
-use Rattle.audit_opens.proofs.handles_differ.Statement.{statement}
+use Rattle.base.proofs.Laws.{refl}
 use Rattle.consistency.specs.Good.{handlesDiffer}
+use Rattle.audit_opens.proofs.handles_differ.Statement.{statement}
 use Rattle.audit_opens.proofs.handles_differ.Tie as tie
 
 returns : tie.Need-returns

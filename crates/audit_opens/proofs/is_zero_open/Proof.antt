@@ -1,5 +1,5 @@
 -- `audit_opens::is_zero_open` meets its contract.
-use mathlib.Core.Path.{refl}
+use Rattle.base.proofs.Laws.{refl}
 use Rattle.consistency.specs.Good.{isZeroOpen}
 use Rattle.audit_opens.proofs.is_zero_open.Statement.{statement}
 use Rattle.audit_opens.proofs.is_zero_open.Tie as tie

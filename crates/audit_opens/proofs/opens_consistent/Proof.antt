@@ -1,23 +1,9 @@
 -- `audit_opens::opens_consistent` meets its contract. The invariant: what is asked is what the rows from i on
 -- say, and whether the handles of every two used rows differ.
-use Prim.Native.Nat.{_-_}
-use mathlib.Core.Path.{_≡_, refl, sym, _∙_, ap}
-use mathlib.Core.Bool.{Bool, _&&_}
-use native.Mathlib.Omega.{arith}
-use lib.ListN.{getD, drop}
-use borrow.Author.Needs.{needs}
-use borrow.Author.Tests.{not-true, not-false}
-use Rattle.lists.specs.Lists.{all, pairs}
-use Rattle.lists.proofs.All.{all-fails, all-next, all-end}
-use Rattle.records.specs.Sizes.{openSlots}
-use Rattle.records.specs.Slots.{zeroOpen}
-use Rattle.records.specs.Namespace.{namespace}
+use Rattle.base.{specs.Base.{_-_, _≡_, Bool, _&&_, getD, drop, all, pairs, openSlots, zeroOpen, namespace}, proofs.Laws.{sym, _∙_, ap, arith, needs, not-true, not-false, all-fails, all-next, all-end}}
+use Rattle.consistency.specs.{Good.handlesDiffer, Relations.live, Test.opensTest}
 use Rattle.records.proofs.Lengths.{rows-length, streams-length}
-use Rattle.consistency.specs.Good.{handlesDiffer}
-use Rattle.consistency.specs.Relations.{live}
-use Rattle.consistency.specs.Test.{opensTest}
-use Rattle.audit_opens.proofs.OpensScan.{openTest, row-found, row-past, opens-next, opens-none}
-use Rattle.audit_opens.proofs.opens_consistent.Statement.{statement}
+use Rattle.audit_opens.proofs.{OpensScan.{openTest, row-found, row-past, opens-next, opens-none}, opens_consistent.Statement.statement}
 use Rattle.audit_opens.proofs.opens_consistent.Tie as tie
 
 abbrev Inv-loop : tie.InvT-loop

@@ -1,5 +1,5 @@
 -- `audit_opens::row_consistent` meets its contract.
-use borrow.Author.Needs.{needs}
+use Rattle.base.proofs.Laws.{needs}
 use Rattle.audit_opens.proofs.row_consistent.Statement.{statement}
 use Rattle.audit_opens.proofs.row_consistent.Tie as tie
 

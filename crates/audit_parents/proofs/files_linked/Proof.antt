@@ -1,28 +1,8 @@
 -- `audit_parents::files_linked` meets its contract. The invariant: what is asked is what the rest of the files say.
-use Prim.Native.Nat.{ℕ, _-_, _<_}
-use mathlib.Core.Path.{_≡_, sym, _∙_}
-use mathlib.Core.Bool.{Bool, true}
-use mathlib.Core.List.{List}
-use mathlib.Core.Logic.{⊎-elim}
-use native.Mathlib.Omega.{arith}
-use lib.ListN.{length, getD, drop}
-use borrow.Author.Needs.{needs}
-use borrow.Author.Tests.{not-true, not-false}
-use Rattle.lists.specs.Lists.{all, allFrom, keep}
-use Rattle.lists.proofs.All.{numbered-stops, numbered-next, numbered-end}
-use Rattle.records.specs.Slots.{linkUsed}
-use Rattle.records.specs.declared.FileNo.{FileNo}
-use Rattle.records.specs.declared.File.{File}
-use Rattle.records.specs.declared.Volume.{Volume}
-use Rattle.records.proofs.Lengths.{files-length}
-use Rattle.records.proofs.Elements.{arraylessFile}
-use Rattle.consistency.specs.Relations.{parentOf}
-use Rattle.consistency.specs.Slots.{slotTest}
-use Rattle.consistency.specs.Good.{isZeroLink}
-use Rattle.consistency.specs.Test.{goodLinkOf, linksOfFile}
-use Rattle.records.specs.Sizes.{fileSlots}
-use Rattle.audit_parents.proofs.ParentsScan.{parent-in, unused-passes, wrong-count, right-count}
-use Rattle.audit_parents.proofs.files_linked.Statement.{statement}
+use Rattle.base.{specs.Base.{ℕ, _-_, _<_, _≡_, Bool, true, List, length, getD, drop, all, allFrom, keep, linkUsed, FileNo, File, Volume, fileSlots}, proofs.Laws.{sym, _∙_, ⊎-elim, arith, needs, not-true, not-false, numbered-stops, numbered-next, numbered-end}}
+use Rattle.consistency.specs.{Relations.parentOf, Slots.slotTest, Good.isZeroLink, Test.{goodLinkOf, linksOfFile}}
+use Rattle.records.proofs.{Lengths.files-length, Elements.arraylessFile}
+use Rattle.audit_parents.proofs.{ParentsScan.{parent-in, unused-passes, wrong-count, right-count}, files_linked.Statement.statement}
 use Rattle.audit_parents.proofs.files_linked.Tie as tie
 
 -- a file's test with its number

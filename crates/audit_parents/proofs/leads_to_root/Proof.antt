@@ -1,17 +1,8 @@
 -- `audit_parents::leads_to_root` meets its contract. The invariant: what is asked is whether the root is at
 -- most as many steps above the present file as are left.
-use Prim.Native.Nat.{ℕ, _≤_, _<_}
-use mathlib.Core.Path.{_≡_, refl, sym, ap, _∙_}
-use mathlib.Core.List.{List}
-use native.Mathlib.Omega.{arith}
-use lib.ListN.{getD}
-use borrow.Author.Needs.{needs}
-use Rattle.records.specs.declared.FileNo.{FileNo}
-use Rattle.records.specs.declared.Link.{Link}
+use Rattle.base.{specs.Base.{ℕ, _≤_, _<_, _≡_, List, getD, FileNo, Link, fileSlots}, proofs.Laws.{refl, sym, ap, _∙_, arith, needs}}
 use Rattle.consistency.specs.Relations.{parentOf, reaches}
-use Rattle.records.specs.Sizes.{fileSlots}
-use Rattle.audit_parents.proofs.ParentsScan.{up-here, up-next}
-use Rattle.audit_parents.proofs.leads_to_root.Statement.{statement}
+use Rattle.audit_parents.proofs.{ParentsScan.{up-here, up-next}, leads_to_root.Statement.statement}
 use Rattle.audit_parents.proofs.leads_to_root.Tie as tie
 
 -- the table has the parents, and none is past its end

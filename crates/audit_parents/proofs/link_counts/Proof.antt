@@ -1,20 +1,8 @@
 -- `audit_parents::link_counts` meets its contract. The invariant: the table has the counts of the links from i on.
-use Prim.Native.Nat.{ℕ, _+_, _-_, _≤_}
-use mathlib.Core.Path.{_≡_, refl, sym, ap, _∙_}
-use mathlib.Core.Logic.{⊎-elim, inl, inr}
-use native.Mathlib.Omega.{arith}
-use lib.ListN.{length, getD, drop, length-set, length-drop, drop-of-length-le, getD-replicate}
-use borrow.Author.Needs.{needs}
-use Rattle.lists.specs.Lists.{count}
-use Rattle.lists.proofs.Count.{count-bound}
-use Rattle.lists.proofs.Keyed.{Noted, back-skip, back-set}
-use Rattle.records.specs.Slots.{linkUsed}
-use Rattle.records.proofs.Lengths.{links-length}
-use Rattle.records.proofs.Elements.{arraylessLink}
+use Rattle.base.{specs.Base.{ℕ, _+_, _-_, _≤_, _≡_, inl, inr, length, getD, drop, count, linkUsed, fileSlots, linkSlots}, proofs.Laws.{refl, sym, ap, _∙_, ⊎-elim, arith, length-set, length-drop, drop-of-length-le, getD-replicate, needs, count-bound, Noted, back-skip, back-set}}
 use Rattle.consistency.specs.Relations.{linkTo}
-use Rattle.records.specs.Sizes.{fileSlots, linkSlots}
-use Rattle.audit_parents.proofs.ParentsScan.{fileOf, linksTo, count-own, count-other}
-use Rattle.audit_parents.proofs.link_counts.Statement.{statement}
+use Rattle.records.proofs.{Lengths.links-length, Elements.arraylessLink}
+use Rattle.audit_parents.proofs.{ParentsScan.{fileOf, linksTo, count-own, count-other}, link_counts.Statement.statement}
 use Rattle.audit_parents.proofs.link_counts.Tie as tie
 
 abbrev Inv-loop : tie.InvT-loop

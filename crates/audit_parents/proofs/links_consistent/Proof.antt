@@ -1,13 +1,7 @@
 -- `audit_parents::links_consistent` meets its contract: the slots, then the files, are the parts of the test.
-use mathlib.Core.Path.{sym, _∙_}
-use lib.ListN.{length}
-use borrow.Author.Needs.{needs}
-use borrow.Author.Tests.{eq-eqb, not-true, not-false}
-use Rattle.lists.proofs.Tests.{and-left}
+use Rattle.base.{proofs.Laws.{sym, _∙_, needs, eq-eqb, not-true, not-false, and-left}, specs.Base.{length, linkSlots}}
+use Rattle.consistency.specs.{Slots.slotsTest, Test.linksTest}
 use Rattle.records.proofs.Lengths.{links-length}
-use Rattle.consistency.specs.Slots.{slotsTest}
-use Rattle.consistency.specs.Test.{linksTest}
-use Rattle.records.specs.Sizes.{linkSlots}
 use Rattle.audit_parents.proofs.links_consistent.Statement.{statement}
 use Rattle.audit_parents.proofs.links_consistent.Tie as tie
 

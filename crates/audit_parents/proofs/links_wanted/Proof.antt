@@ -1,5 +1,5 @@
 -- `audit_parents::links_wanted` meets its contract.
-use borrow.Author.Tests.{eq-eqb, ne-eqb}
+use Rattle.base.proofs.Laws.{eq-eqb, ne-eqb}
 use Rattle.audit_parents.proofs.links_wanted.Statement.{statement}
 use Rattle.audit_parents.proofs.links_wanted.Tie as tie
 

@@ -1,12 +1,7 @@
 -- `audit_parents::own_numbers` meets its contract. The invariant: each place below i has its own number.
-use Prim.Native.Nat.{ℕ, _-_, _≤_, _<_}
-use mathlib.Core.Path.{_≡_, _∙_}
-use native.Mathlib.Omega.{arith}
-use lib.ListN.{length, getD, length-set}
-use lib.Seq.{getD-set-same, getD-set-other}
+use Rattle.base.{specs.Base.{ℕ, _-_, _≤_, _<_, _≡_, length, getD, fileSlots}, proofs.Laws.{_∙_, arith, length-set, getD-set-same, needs}}
 use borrow.Author.Count.{below-more}
-use borrow.Author.Needs.{needs}
-use Rattle.records.specs.Sizes.{fileSlots}
+use lib.Seq.{getD-set-other}
 use Rattle.audit_parents.proofs.own_numbers.Statement.{statement}
 use Rattle.audit_parents.proofs.own_numbers.Tie as tie
 

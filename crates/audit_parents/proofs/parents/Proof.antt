@@ -1,18 +1,8 @@
 -- `audit_parents::parents` meets its contract. The invariant: the table has the parents by the links from i on.
-use Prim.Native.Nat.{ℕ, _-_, _≤_}
-use mathlib.Core.Path.{_≡_, sym, ap, _∙_}
-use mathlib.Core.Logic.{⊎-elim, inl, inr}
-use native.Mathlib.Omega.{arith}
-use lib.ListN.{length, getD, drop, length-set, drop-of-length-le}
-use borrow.Author.Needs.{needs}
-use Rattle.lists.proofs.Keyed.{Noted, back-skip, back-set}
-use Rattle.records.specs.Slots.{linkUsed}
-use Rattle.records.proofs.Lengths.{links-length}
-use Rattle.records.proofs.Elements.{arraylessLink}
+use Rattle.base.{specs.Base.{ℕ, _-_, _≤_, _≡_, inl, inr, length, getD, drop, linkUsed, fileSlots, linkSlots}, proofs.Laws.{sym, ap, _∙_, ⊎-elim, arith, length-set, drop-of-length-le, needs, Noted, back-skip, back-set}}
 use Rattle.consistency.specs.Relations.{parentOf}
-use Rattle.records.specs.Sizes.{fileSlots, linkSlots}
-use Rattle.audit_parents.proofs.ParentsScan.{fileOf, above, parent-own, parent-other}
-use Rattle.audit_parents.proofs.parents.Statement.{statement}
+use Rattle.records.proofs.{Lengths.links-length, Elements.arraylessLink}
+use Rattle.audit_parents.proofs.{ParentsScan.{fileOf, above, parent-own, parent-other}, parents.Statement.statement}
 use Rattle.audit_parents.proofs.parents.Tie as tie
 
 abbrev Inv-loop : tie.InvT-loop

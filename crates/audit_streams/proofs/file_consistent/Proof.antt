@@ -1,5 +1,5 @@
 -- `audit_streams::file_consistent` meets its contract.
-use borrow.Author.Needs.{needs}
+use Rattle.base.proofs.Laws.{needs}
 use Rattle.audit_streams.proofs.file_consistent.Statement.{statement}
 use Rattle.audit_streams.proofs.file_consistent.Tie as tie
 

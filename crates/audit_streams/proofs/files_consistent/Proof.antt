@@ -1,19 +1,8 @@
 -- `audit_streams::files_consistent` meets its contract. The invariant: what the counts say of the files is what they
 -- say of those from i on.
-use Prim.Native.Nat.{_-_}
-use mathlib.Core.Path.{_≡_, refl, sym, _∙_}
-use native.Mathlib.Omega.{arith}
-use lib.ListN.{drop}
-use borrow.Author.Needs.{needs}
-use borrow.Author.Tests.{not-true, not-false}
-use Rattle.lists.specs.Lists.{allFrom, keep}
-use Rattle.lists.proofs.All.{numbered-stops, numbered-next, numbered-end}
-use Rattle.records.specs.Sizes.{fileSlots}
-use Rattle.records.specs.Namespace.{bareUsed, namespace}
-use Rattle.records.proofs.Lengths.{files-length}
-use Rattle.records.proofs.Elements.{arraylessFile}
-use Rattle.audit_streams.proofs.StreamsScan.{foundTest, files-found}
-use Rattle.audit_streams.proofs.files_consistent.Statement.{statement}
+use Rattle.base.{specs.Base.{_-_, _≡_, drop, allFrom, keep, fileSlots, bareUsed, namespace}, proofs.Laws.{refl, sym, _∙_, arith, needs, not-true, not-false, numbered-stops, numbered-next, numbered-end}}
+use Rattle.records.proofs.{Lengths.files-length, Elements.arraylessFile}
+use Rattle.audit_streams.proofs.{StreamsScan.{foundTest, files-found}, files_consistent.Statement.statement}
 use Rattle.audit_streams.proofs.files_consistent.Tie as tie
 
 abbrev Inv-loop : tie.InvT-loop

@@ -1,6 +1,5 @@
 -- `audit_streams::good_stream` meets its contract: each test is one part of the definition.
-use borrow.Author.Needs.{needs}
-use Rattle.records.specs.Namespace.{bare}
+use Rattle.base.{proofs.Laws.needs, specs.Base.bare}
 use Rattle.consistency.specs.Good.{goodStream}
 use Rattle.audit_streams.proofs.good_stream.Statement.{statement}
 use Rattle.audit_streams.proofs.good_stream.Tie as tie

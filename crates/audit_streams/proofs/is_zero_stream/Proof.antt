@@ -1,7 +1,6 @@
 -- `audit_streams::is_zero_stream` meets its contract.
-use Rattle.records.specs.Namespace.{bare}
+use Rattle.base.{specs.Base.bare, proofs.Laws.needs}
 use Rattle.consistency.specs.Good.{isZeroStream}
-use borrow.Author.Needs.{needs}
 use Rattle.audit_streams.proofs.is_zero_stream.Statement.{statement}
 use Rattle.audit_streams.proofs.is_zero_stream.Tie as tie
 

@@ -1,24 +1,9 @@
 -- `audit_streams::names_differ` meets its contract. The invariants: what is asked is what the streams
 -- from i on say; in a used stream's own loop, that it differs from those from j on, and what those after it say.
-use Prim.Native.Nat.{_-_, _+_}
-use mathlib.Core.Path.{_≡_, refl, sym, _∙_, ap}
-use mathlib.Core.Bool.{Bool, _&&_}
-use mathlib.Core.Logic.{⊎-elim}
-use native.Mathlib.Omega.{arith}
-use lib.ListN.{getD, drop}
-use borrow.Author.Needs.{needs}
-use borrow.Author.Tests.{not-true, not-false}
-use Rattle.lists.specs.Lists.{all, keep, pairs}
-use Rattle.lists.proofs.Keep.{kept-past, all-kept-fails, all-kept-next, all-kept-end}
-use Rattle.lists.proofs.Pairs.{pairs-kept, pairs-kept-end}
-use Rattle.records.specs.Sizes.{streamSlots}
-use Rattle.records.specs.Slots.{streamUsed}
-use Rattle.records.specs.Namespace.{bareUsed, namespace}
-use Rattle.records.proofs.Lengths.{streams-length}
-use Rattle.records.proofs.Elements.{arraylessStream}
-use Rattle.audit_streams.proofs.StreamsScan.{differ, pairs-bare}
-use Rattle.audit_streams.proofs.names_differ.Statement.{statement}
+use Rattle.base.{specs.Base.{_-_, _+_, _≡_, Bool, _&&_, getD, drop, all, keep, pairs, streamSlots, streamUsed, bareUsed, namespace}, proofs.Laws.{sym, _∙_, ap, ⊎-elim, arith, needs, not-true, not-false, kept-past, all-kept-fails, all-kept-next, all-kept-end, pairs-kept, pairs-kept-end}}
 use Rattle.consistency.specs.Good.{streamNamesDiffer}
+use Rattle.records.proofs.{Lengths.streams-length, Elements.arraylessStream}
+use Rattle.audit_streams.proofs.{StreamsScan.{differ, pairs-bare}, names_differ.Statement.statement}
 use Rattle.audit_streams.proofs.names_differ.Tie as tie
 
 abbrev Inv-loop2 : tie.InvT-loop2

@@ -1,5 +1,5 @@
 -- `audit_streams::one_if_unnamed` meets its contract.
-use borrow.Author.Needs.{needs}
+use Rattle.base.proofs.Laws.{needs}
 use Rattle.audit_streams.proofs.one_if_unnamed.Statement.{statement}
 use Rattle.audit_streams.proofs.one_if_unnamed.Tie as tie
 

@@ -1,7 +1,5 @@
 -- `audit_streams::slot_consistent` meets its contract.
-use borrow.Author.Needs.{needs}
-use Rattle.records.specs.Slots.{streamUsed}
-use Rattle.records.specs.Namespace.{bare, bareUsed}
+use Rattle.base.{proofs.Laws.needs, specs.Base.{streamUsed, bare, bareUsed}}
 use Rattle.audit_streams.proofs.slot_consistent.Statement.{statement}
 use Rattle.audit_streams.proofs.slot_consistent.Tie as tie
 

@@ -1,19 +1,8 @@
 -- `audit_streams::slots_consistent` meets its contract. The invariant: what is asked is what the
 -- streams from i on say.
-use Prim.Native.Nat.{_-_}
-use mathlib.Core.Path.{_≡_, refl, sym, _∙_}
-use native.Mathlib.Omega.{arith}
-use lib.ListN.{getD, drop}
-use borrow.Author.Needs.{needs}
-use borrow.Author.Tests.{not-true, not-false}
-use Rattle.lists.specs.Lists.{all}
-use Rattle.lists.proofs.All.{all-fails, all-next, all-end, all-map}
-use Rattle.records.specs.Sizes.{streamSlots}
-use Rattle.records.specs.Namespace.{bare, namespace}
-use Rattle.records.proofs.Lengths.{files-length, streams-length}
-use Rattle.records.proofs.Elements.{arraylessStream}
-use Rattle.audit_streams.proofs.StreamsScan.{streamTest, slot-found, slot-past}
-use Rattle.audit_streams.proofs.slots_consistent.Statement.{statement}
+use Rattle.base.{specs.Base.{_-_, _≡_, getD, drop, all, streamSlots, bare, namespace}, proofs.Laws.{sym, _∙_, arith, needs, not-true, not-false, all-fails, all-next, all-end, all-map}}
+use Rattle.records.proofs.{Lengths.{files-length, streams-length}, Elements.arraylessStream}
+use Rattle.audit_streams.proofs.{StreamsScan.{streamTest, slot-found, slot-past}, slots_consistent.Statement.statement}
 use Rattle.audit_streams.proofs.slots_consistent.Tie as tie
 
 abbrev Inv-loop : tie.InvT-loop

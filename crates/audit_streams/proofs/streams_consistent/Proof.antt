@@ -1,11 +1,7 @@
 -- `audit_streams::streams_consistent` meets its contract: its three passes are the parts of the test.
-use mathlib.Core.Path.{sym, _∙_}
-use borrow.Author.Tests.{not-true, not-false}
-use Rattle.records.specs.Namespace.{namespace}
+use Rattle.base.{proofs.Laws.{sym, _∙_, not-true, not-false, needs}, specs.Base.namespace}
 use Rattle.records.proofs.Lengths.{streams-length}
-use Rattle.audit_streams.proofs.StreamsScan.{streams-parts}
-use borrow.Author.Needs.{needs}
-use Rattle.audit_streams.proofs.streams_consistent.Statement.{statement}
+use Rattle.audit_streams.proofs.{StreamsScan.streams-parts, streams_consistent.Statement.statement}
 use Rattle.audit_streams.proofs.streams_consistent.Tie as tie
 
 slots-consistent-requires : tie.Need-slots-consistent-requires

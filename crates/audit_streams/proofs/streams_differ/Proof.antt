@@ -1,11 +1,7 @@
 -- `audit_streams::streams_differ` meets its contract.
-use mathlib.Core.Path.{ap}
-use mathlib.Core.Bool.{not}
-use borrow.Author.Tests.{eq-eqb, ne-eqb}
-use Rattle.records.specs.Namespace.{bare}
-use borrow.Author.Needs.{needs}
-use Rattle.audit_streams.proofs.streams_differ.Statement.{statement}
+use Rattle.base.{proofs.Laws.{ap, eq-eqb, ne-eqb, needs}, specs.Base.{not, bare}}
 use Rattle.consistency.specs.Good.{streamNamesDiffer}
+use Rattle.audit_streams.proofs.streams_differ.Statement.{statement}
 use Rattle.audit_streams.proofs.streams_differ.Tie as tie
 
 returns : tie.Need-returns

@@ -1,20 +1,9 @@
 -- `audit_streams::streams_of_files` meets its contract: with the streams from i on, the counts are
 -- those of all.
-use Prim.Native.Nat.{_+_, _-_}
-use mathlib.Core.Path.{sym, _∙_}
-use mathlib.Core.Logic.{⊎-elim, inl, inr}
-use native.Mathlib.Omega.{arith}
-use lib.ListN.{getD}
-use borrow.Author.Needs.{needs}
-use borrow.Author.Tests.{ltb-true, ltb-false}
-use Rattle.records.specs.Sizes.{fileSlots, streamSlots}
-use Rattle.lists.specs.Lists.{isEmpty}
+use Rattle.base.{specs.Base.{_-_, inl, inr, getD, fileSlots, streamSlots, isEmpty, namespace}, proofs.Laws.{sym, _∙_, ⊎-elim, arith, needs, ltb-true, ltb-false}}
+use Rattle.records.proofs.{Lengths.streams-length, Elements.arraylessStream}
 use Rattle.stored_names.specs.StoredNames.{units}
-use Rattle.records.specs.Namespace.{namespace}
-use Rattle.records.proofs.Lengths.{streams-length}
-use Rattle.records.proofs.Elements.{arraylessStream}
-use Rattle.audit_streams.proofs.StreamsScan.{fileOf, ofFile, unnamedIn, not-of-file, not-unnamed-in, one-of-file, one-unnamed, at-most-one, Counted, none-counted, stream-adds, stream-skips, room, all-counted, count-of-file, count-unnamed}
-use Rattle.audit_streams.proofs.streams_of_files.Statement.{statement}
+use Rattle.audit_streams.proofs.{StreamsScan.{fileOf, ofFile, unnamedIn, not-of-file, not-unnamed-in, one-of-file, one-unnamed, at-most-one, Counted, none-counted, stream-adds, stream-skips, room, all-counted, count-of-file, count-unnamed}, streams_of_files.Statement.statement}
 use Rattle.audit_streams.proofs.streams_of_files.Tie as tie
 
 abbrev Inv-loop : tie.InvT-loop

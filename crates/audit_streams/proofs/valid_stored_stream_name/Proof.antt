@@ -1,13 +1,8 @@
 -- `audit_streams::valid_stored_stream_name` meets its contract: the part before the first zero is the name's units.
-use Prim.Native.Nat.{ℕ}
-use mathlib.Core.Path.{_≡_, sym, ap, _∙_}
-use native.Mathlib.Omega.{arith}
-use lib.ListN.{take}
+use Rattle.base.{specs.Base.{ℕ, take, streamNameLimit}, proofs.Laws.{sym, ap, _∙_, arith, needs}}
 use lib.Seq.{length-take-le}
-use Rattle.records.specs.Sizes.{streamNameLimit}
-use Rattle.names.specs.Names.{validStreamName}
 use Rattle.audit_names.proofs.StoredUnits.{units-taken, units-fit}
-use borrow.Author.Needs.{needs}
+use Rattle.names.specs.Names.{validStreamName}
 use Rattle.audit_streams.proofs.valid_stored_stream_name.Statement.{statement}
 use Rattle.audit_streams.proofs.valid_stored_stream_name.Tie as tie
 

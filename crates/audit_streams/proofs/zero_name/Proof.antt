@@ -1,10 +1,6 @@
 -- `audit_streams::zero_name` meets its contract: a name is all zero exactly where it is empty and well stored.
-use mathlib.Core.Path.{sym, _∙_}
-use native.Mathlib.Omega.{arith}
-use borrow.Author.Tests.{ne-eqb}
+use Rattle.base.{proofs.Laws.{sym, _∙_, arith, ne-eqb, needs}, specs.Base.streamNameLimit}
 use Rattle.audit_names.proofs.StoredUnits.{zeros-stored, zeros-not}
-use borrow.Author.Needs.{needs}
-use Rattle.records.specs.Sizes.{streamNameLimit}
 use Rattle.audit_streams.proofs.zero_name.Statement.{statement}
 use Rattle.audit_streams.proofs.zero_name.Tie as tie
 

@@ -1,7 +1,7 @@
 -- `bits::has` meets its contract: the code is the definition.
 use mathlib.Core.Path.{refl}
-use Rattle.bits.specs.Bits.{has}
 use Rattle.bits.proofs.has.Statement.{statement}
+use Rattle.bits.specs.Bits.{has}
 use Rattle.bits.proofs.has.Tie as tie
 
 returns : tie.Need-returns

@@ -1,7 +1,7 @@
 -- `bits::within` meets its contract: the code is the definition.
 use mathlib.Core.Path.{refl}
-use Rattle.bits.specs.Bits.{within}
 use Rattle.bits.proofs.within.Statement.{statement}
+use Rattle.bits.specs.Bits.{within}
 use Rattle.bits.proofs.within.Tie as tie
 
 returns : tie.Need-returns

@@ -1,8 +1,8 @@
 -- `bits::without` meets its contract: the bits taken away are no more than the number.
-use mathlib.Core.Path.{refl}
 use lib.Bits.{and-le-l}
-use Rattle.bits.specs.Bits.{without}
+use mathlib.Core.Path.{refl}
 use Rattle.bits.proofs.without.Statement.{statement}
+use Rattle.bits.specs.Bits.{without}
 use Rattle.bits.proofs.without.Tie as tie
 
 sub-result : tie.Need-sub-result

@@ -1,14 +1,7 @@
 -- `components::find_sign` meets its contract. The loop's invariant: the place sought is the first that fails from i on.
-use Prim.Native.Nat.{_+_, _-_}
-use mathlib.Core.Bool.{not}
-use mathlib.Core.Path.{_≡_, refl, sym, ap, _∙_}
-use native.Mathlib.Omega.{arith}
-use lib.ListN.{length, drop}
-use borrow.Author.Needs.{needs}
-use borrow.Author.Tests.{eq-eqb, ne-eqb}
+use Rattle.base.{specs.Base.{_+_, _-_, not, _≡_, length, drop}, proofs.Laws.{refl, sym, ap, _∙_, arith, needs, eq-eqb, ne-eqb}}
+use Rattle.components.proofs.{Leading.{from-next, from-stops, from-end}, find_sign.Statement.statement}
 use Rattle.components.specs.Positions.{leading, noSign, placeOf}
-use Rattle.components.proofs.Leading.{from-next, from-stops, from-end}
-use Rattle.components.proofs.find_sign.Statement.{statement}
 use Rattle.components.proofs.find_sign.Tie as tie
 
 abbrev Inv-loop : tie.InvT-loop

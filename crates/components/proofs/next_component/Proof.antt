@@ -1,11 +1,8 @@
 -- `components::next_component` meets its contract, by those of the two searches.
-use Prim.Native.Nat.{ℕ}
-use mathlib.Core.Path.{ap, _∙_}
-use borrow.Author.Needs.{needs}
+use Rattle.base.{specs.Base.ℕ, proofs.Laws.{ap, _∙_, needs}}
 use Rattle.units.specs.Units.{backslash}
-use Rattle.components.specs.Positions.{placeOf, nextComponent}
-use Rattle.components.specs.declared.Part.{Part}
 use Rattle.components.proofs.next_component.Statement.{statement}
+use Rattle.components.specs.{Positions.{placeOf, nextComponent}, declared.Part.Part}
 use Rattle.components.proofs.next_component.Tie as tie
 
 skip-sign-requires : tie.Need-skip-sign-requires

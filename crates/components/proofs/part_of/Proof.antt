@@ -1,12 +1,7 @@
 -- `components::part_of` meets its contract: what is left of the units before the part's end.
-use Prim.Native.Nat.{_-_}
-use mathlib.Core.Path.{sym, ap, _∙_}
-use native.Mathlib.Omega.{arith}
-use lib.ListN.{length, drop, length-drop, drop-of-length-le}
-use lib.Seq.{take-all}
-use borrow.Author.Needs.{needs}
-use Rattle.components.specs.Positions.{partOf}
+use Rattle.base.{specs.Base.{_-_, length, drop}, proofs.Laws.{sym, ap, _∙_, arith, length-drop, drop-of-length-le, take-all, needs}}
 use Rattle.components.proofs.part_of.Statement.{statement}
+use Rattle.components.specs.Positions.{partOf}
 use Rattle.components.proofs.part_of.Tie as tie
 
 units-before-requires : tie.Need-units-before-requires

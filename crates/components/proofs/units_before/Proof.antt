@@ -1,9 +1,5 @@
 -- `components::units_before` meets its contract: past the end all units are taken.
-use mathlib.Core.Path.{sym}
-use native.Mathlib.Omega.{arith}
-use lib.ListN.{length-take}
-use lib.Seq.{take-all}
-use borrow.Author.Needs.{needs}
+use Rattle.base.proofs.Laws.{sym, arith, length-take, take-all, needs}
 use Rattle.components.proofs.units_before.Statement.{statement}
 use Rattle.components.proofs.units_before.Tie as tie
 

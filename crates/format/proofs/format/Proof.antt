@@ -1,12 +1,7 @@
 -- `format::format` meets its contract: the lengths are right, so the masks decide.
-use borrow.Author.Needs.{needs}
-use borrow.Author.Tests.{not-true, not-false}
-use mathlib.Core.Path.{refl}
-use Rattle.records.specs.Checked.{refuseIf, _>>_}
-use Rattle.records.specs.State.{concluded}
+use Rattle.base.{proofs.Laws.{needs, not-true, not-false, refl}, specs.Base.{refuseIf, _>>_, concluded}}
+use Rattle.format.proofs.{RightLengths.right-lengths, format.Statement.statement}
 use Rattle.format.specs.Format.{format, freshTables, checkedMasks}
-use Rattle.format.proofs.RightLengths.{right-lengths}
-use Rattle.format.proofs.format.Statement.{statement}
 use Rattle.format.proofs.format.Tie as tie
 
 valid-masks-requires : tie.Need-valid-masks-requires

@@ -1,5 +1,5 @@
 -- `format::fresh_opens` meets its contract: the code is the definition.
-use mathlib.Core.Path.{refl}
+use Rattle.base.proofs.Laws.{refl}
 use Rattle.format.proofs.fresh_opens.Statement.{statement}
 use Rattle.format.proofs.fresh_opens.Tie as tie
 

@@ -1,10 +1,7 @@
 -- `format::fresh_volume` meets its contract: each table has the root's record and those of free slots.
-use lib.ListN.{replicate, set}
-use borrow.Author.Needs.{needs}
-use Rattle.records.specs.Sizes.{fileSlots, linkSlots, streamSlots}
-use Rattle.records.specs.Slots.{zeroFile, zeroLink, zeroStream}
-use Rattle.format.specs.Format.{freshVolume}
+use Rattle.base.{specs.Base.{replicate, set, fileSlots, linkSlots, streamSlots, zeroFile, zeroLink, zeroStream}, proofs.Laws.needs}
 use Rattle.format.proofs.fresh_volume.Statement.{statement}
+use Rattle.format.specs.Format.{freshVolume}
 use Rattle.format.proofs.fresh_volume.Tie as tie
 
 root-file-requires : tie.Need-root-file-requires

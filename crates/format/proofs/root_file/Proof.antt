@@ -1,7 +1,7 @@
 -- `format::root_file` meets its contract: the code is the definition.
-use mathlib.Core.Path.{refl}
-use Rattle.format.specs.Format.{rootFile}
+use Rattle.base.proofs.Laws.{refl}
 use Rattle.format.proofs.root_file.Statement.{statement}
+use Rattle.format.specs.Format.{rootFile}
 use Rattle.format.proofs.root_file.Tie as tie
 
 returns : tie.Need-returns

@@ -1,5 +1,5 @@
 -- `format::root_stream` meets its contract: the code is the definition.
-use mathlib.Core.Path.{refl}
+use Rattle.base.proofs.Laws.{refl}
 use Rattle.format.proofs.root_stream.Statement.{statement}
 use Rattle.format.proofs.root_stream.Tie as tie
 

@@ -1,16 +1,8 @@
 -- `free_slots::free_file` meets its contract. The invariant: what is sought is what the rest of the table gives.
-use Prim.Native.Nat.{_-_}
-use mathlib.Core.Path.{_≡_, refl, sym, _∙_, ap}
-use native.Mathlib.Omega.{arith}
-use borrow.Author.Needs.{needs}
-use Rattle.lists.specs.Lists.{firstAfter}
-use Rattle.records.specs.Sizes.{fileSlots}
-use Rattle.records.specs.Slots.{fileUsed}
-use Rattle.free_slots.specs.Free.{fileSlot, freeFileSlot}
+use Rattle.base.{specs.Base.{_-_, _≡_, firstAfter, fileSlots, fileUsed, not}, proofs.Laws.{refl, sym, _∙_, ap, arith, needs, answerFrom, answer-here, answer-next, answer-none}}
 use Rattle.records.proofs.Lengths.{files-length}
-use mathlib.Core.Bool.{not}
-use Rattle.lists.proofs.First.{answerFrom, answer-here, answer-next, answer-none}
 use Rattle.free_slots.proofs.free_file.Statement.{statement}
+use Rattle.free_slots.specs.Free.{fileSlot, freeFileSlot}
 use Rattle.free_slots.proofs.free_file.Tie as tie
 
 abbrev Inv-loop : tie.InvT-loop

@@ -1,16 +1,8 @@
 -- `free_slots::free_link` meets its contract. The invariant: what is sought is what the rest of the table gives.
-use Prim.Native.Nat.{_-_}
-use mathlib.Core.Path.{_≡_, refl, sym, _∙_, ap}
-use native.Mathlib.Omega.{arith}
-use borrow.Author.Needs.{needs}
-use Rattle.lists.specs.Lists.{firstAfter}
-use Rattle.records.specs.Sizes.{linkSlots}
-use Rattle.records.specs.Slots.{linkUsed}
-use Rattle.free_slots.specs.Free.{linkSlot, freeLinkSlot}
+use Rattle.base.{specs.Base.{_-_, _≡_, firstAfter, linkSlots, linkUsed, not}, proofs.Laws.{refl, sym, _∙_, ap, arith, needs, answerFrom, answer-here, answer-next, answer-none}}
 use Rattle.records.proofs.Lengths.{links-length}
-use mathlib.Core.Bool.{not}
-use Rattle.lists.proofs.First.{answerFrom, answer-here, answer-next, answer-none}
 use Rattle.free_slots.proofs.free_link.Statement.{statement}
+use Rattle.free_slots.specs.Free.{linkSlot, freeLinkSlot}
 use Rattle.free_slots.proofs.free_link.Tie as tie
 
 abbrev Inv-loop : tie.InvT-loop

@@ -1,16 +1,8 @@
 -- `free_slots::free_stream` meets its contract. The invariant: what is sought is what the rest of the table gives.
-use Prim.Native.Nat.{_-_}
-use mathlib.Core.Path.{_≡_, refl, sym, _∙_, ap}
-use native.Mathlib.Omega.{arith}
-use borrow.Author.Needs.{needs}
-use Rattle.lists.specs.Lists.{firstAfter}
-use Rattle.records.specs.Sizes.{streamSlots}
-use Rattle.records.specs.Slots.{streamUsed}
-use Rattle.free_slots.specs.Free.{streamSlot, freeStreamSlot}
+use Rattle.base.{specs.Base.{_-_, _≡_, firstAfter, streamSlots, streamUsed, not}, proofs.Laws.{refl, sym, _∙_, ap, arith, needs, answerFrom, answer-here, answer-next, answer-none}}
 use Rattle.records.proofs.Lengths.{streams-length}
-use mathlib.Core.Bool.{not}
-use Rattle.lists.proofs.First.{answerFrom, answer-here, answer-next, answer-none}
 use Rattle.free_slots.proofs.free_stream.Statement.{statement}
+use Rattle.free_slots.specs.Free.{streamSlot, freeStreamSlot}
 use Rattle.free_slots.proofs.free_stream.Tie as tie
 
 abbrev Inv-loop : tie.InvT-loop

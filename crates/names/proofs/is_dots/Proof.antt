@@ -1,13 +1,7 @@
 -- `names::is_dots` meets its contract, by the name's length.
-use mathlib.Core.Bool.{Bool, true, false, _&&_}
-use mathlib.Core.Path.{_≡_, _∙_, sym}
-use lib.Dec.{eqb}
-use lib.ListN.{getD}
-use borrow.Author.Needs.{needs}
-use borrow.Author.Tests.{eq-eqb, ne-eqb}
+use Rattle.base.{specs.Base.{Bool, true, false, _&&_, _≡_, eqb, getD}, proofs.Laws.{_∙_, sym, needs, eq-eqb, ne-eqb}}
 use Rattle.units.specs.Units.{dot}
-use Rattle.names.proofs.ValidNames.{dots-one, dots-two, dots-none}
-use Rattle.names.proofs.is_dots.Statement.{statement}
+use Rattle.names.proofs.{ValidNames.{dots-one, dots-two, dots-none}, is_dots.Statement.statement}
 use Rattle.names.proofs.is_dots.Tie as tie
 
 both-right : (a b : Bool) → a ≡ true → b ≡ (a && b)

@@ -1,10 +1,7 @@
 -- `names::valid_file_name` meets its contract: past the tests for the empty name and the dots, the rest is the test of
 -- any name.
-use mathlib.Core.Path.{sym, _∙_}
-use borrow.Author.Needs.{needs}
-use Rattle.records.specs.Sizes.{fileNameLimit}
-use Rattle.names.proofs.ValidNames.{file-name-empty, file-name-dots, file-name-other}
-use Rattle.names.proofs.valid_file_name.Statement.{statement}
+use Rattle.base.{proofs.Laws.{sym, _∙_, needs}, specs.Base.fileNameLimit}
+use Rattle.names.proofs.{ValidNames.{file-name-empty, file-name-dots, file-name-other}, valid_file_name.Statement.statement}
 use Rattle.names.proofs.valid_file_name.Tie as tie
 
 returns : tie.Need-returns

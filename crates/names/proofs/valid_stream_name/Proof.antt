@@ -1,7 +1,7 @@
 -- `names::valid_stream_name` meets its contract: its limit is the streams'.
-use borrow.Author.Needs.{needs}
-use Rattle.names.specs.Names.{validStreamName}
+use Rattle.base.proofs.Laws.{needs}
 use Rattle.names.proofs.valid_stream_name.Statement.{statement}
+use Rattle.names.specs.Names.{validStreamName}
 use Rattle.names.proofs.valid_stream_name.Tie as tie
 
 valid-units-requires : tie.Need-valid-units-requires

@@ -1,8 +1,6 @@
 -- `names::valid_unit` meets its contract: its match names the signs of `forbidden`, the backslash and the colon.
-use mathlib.Core.Path.{sym}
-use native.Mathlib.Omega.{arith}
-use Rattle.names.proofs.ValidNames.{unit-low, unit-lone, unit-range, unit-other}
-use Rattle.names.proofs.valid_unit.Statement.{statement}
+use Rattle.base.proofs.Laws.{sym, arith}
+use Rattle.names.proofs.{ValidNames.{unit-low, unit-lone, unit-range, unit-other}, valid_unit.Statement.statement}
 use Rattle.names.proofs.valid_unit.Tie as tie
 
 returns : tie.Need-returns

@@ -1,15 +1,7 @@
 -- `names::valid_units` meets its contract, for every limit. The loop's invariant: the answer is that for the units left.
-use Prim.Native.Nat.{_-_}
-use mathlib.Core.Path.{_≡_, sym, _∙_}
-use native.Mathlib.Omega.{arith}
-use lib.ListN.{length, drop}
-use borrow.Author.Needs.{needs}
-use borrow.Author.Tests.{not-true, not-false}
-use Rattle.lists.proofs.All.{all-fails, all-next, all-end}
-use Rattle.lists.specs.Lists.{all}
+use Rattle.base.{specs.Base.{_-_, _≡_, length, drop, all}, proofs.Laws.{sym, _∙_, arith, needs, not-true, not-false, all-fails, all-next, all-end}}
+use Rattle.names.proofs.{ValidNames.{stream-name-long, stream-name-units}, valid_units.Statement.statement}
 use Rattle.names.specs.Names.{validUnit, validStreamName}
-use Rattle.names.proofs.ValidNames.{stream-name-long, stream-name-units}
-use Rattle.names.proofs.valid_units.Statement.{statement}
 use Rattle.names.proofs.valid_units.Tie as tie
 
 abbrev Inv-loop : tie.InvT-loop

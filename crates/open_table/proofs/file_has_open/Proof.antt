@@ -1,22 +1,8 @@
 -- `open_table::file_has_open` meets its contract. The invariant: what is asked is what the rest of the table says.
-use Prim.Native.Nat.{_-_}
-use mathlib.Core.Path.{_≡_, refl, sym, _∙_}
-use mathlib.Core.Bool.{Bool, _&&_}
-use mathlib.Core.Logic.{⊎-elim}
-use native.Mathlib.Omega.{arith}
-use lib.Dec.{eqb}
-use lib.ListN.{drop}
-use borrow.Author.Needs.{needs}
-use Rattle.lists.specs.Lists.{any}
-use Rattle.lists.proofs.Any.{any-here, any-next, any-none}
-use Rattle.lists.proofs.Keep.{any-keep}
-use Rattle.records.specs.Sizes.{openSlots}
-use Rattle.records.specs.Slots.{openUsed, zeroOpen}
-use Rattle.open_table.specs.Rows.{anyOnFile, fileHasOpen}
-use Rattle.records.specs.declared.FileNo.{FileNo}
-use Rattle.records.specs.declared.Open.{Open}
+use Rattle.base.{specs.Base.{_-_, _≡_, Bool, _&&_, eqb, drop, any, openSlots, openUsed, zeroOpen, FileNo, Open}, proofs.Laws.{sym, _∙_, ⊎-elim, arith, needs, any-here, any-next, any-none, any-keep}}
 use Rattle.records.proofs.Lengths.{rows-length}
 use Rattle.open_table.proofs.file_has_open.Statement.{statement}
+use Rattle.open_table.specs.Rows.{anyOnFile, fileHasOpen}
 use Rattle.open_table.proofs.file_has_open.Tie as tie
 
 abbrev on : FileNo → Open → Bool

@@ -1,16 +1,8 @@
 -- `open_table::free_open` meets its contract. The invariant: what is sought is what the rest of the table gives.
-use Prim.Native.Nat.{_-_}
-use mathlib.Core.Path.{_≡_, refl, sym, _∙_, ap}
-use native.Mathlib.Omega.{arith}
-use borrow.Author.Needs.{needs}
-use Rattle.lists.specs.Lists.{firstAfter}
-use Rattle.records.specs.Sizes.{openSlots}
-use Rattle.records.specs.Slots.{openUsed}
-use Rattle.open_table.specs.Rows.{openSlot, freeRow}
+use Rattle.base.{specs.Base.{_-_, _≡_, firstAfter, openSlots, openUsed, not}, proofs.Laws.{refl, sym, _∙_, ap, arith, needs, answerFrom, answer-here, answer-next, answer-none}}
 use Rattle.records.proofs.Lengths.{rows-length}
-use mathlib.Core.Bool.{not}
-use Rattle.lists.proofs.First.{answerFrom, answer-here, answer-next, answer-none}
 use Rattle.open_table.proofs.free_open.Statement.{statement}
+use Rattle.open_table.specs.Rows.{openSlot, freeRow}
 use Rattle.open_table.proofs.free_open.Tie as tie
 
 abbrev Inv-loop : tie.InvT-loop

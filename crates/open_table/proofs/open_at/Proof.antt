@@ -1,12 +1,8 @@
 -- `open_table::open_at` meets its contract: past the table's end the definition says the record of a free slot.
-use mathlib.Core.Path.{sym}
-use native.Mathlib.Omega.{arith}
-use lib.ListN.{List·getD-eq-default}
-use borrow.Author.Needs.{needs}
+use Rattle.base.{proofs.Laws.{sym, arith, List·getD-eq-default, needs}, specs.Base.zeroOpen}
 use Rattle.records.proofs.Lengths.{rows-length}
-use Rattle.records.specs.Slots.{zeroOpen}
-use Rattle.open_table.specs.Rows.{rowAt}
 use Rattle.open_table.proofs.open_at.Statement.{statement}
+use Rattle.open_table.specs.Rows.{rowAt}
 use Rattle.open_table.proofs.open_at.Tie as tie
 
 mul-result : tie.Need-mul-result

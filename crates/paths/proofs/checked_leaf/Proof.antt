@@ -1,24 +1,10 @@
 -- `paths::checked_leaf` meets its contract: a component that its colons do not refuse is judged by its names.
-use Prim.Native.Nat.{ℕ}
-use mathlib.Core.Bool.{Bool, true, false}
-use mathlib.Core.List.{List}
-use mathlib.Core.Logic.{_⊎_, ⊎-elim}
-use mathlib.Core.Option.{Option}
-use mathlib.Core.Path.{_≡_, sym, ap, _∙_}
-use native.Mathlib.Omega.{arith}
-use lib.ListN.{take}
-use borrow.Author.Needs.{needs}
-use Rattle.units.specs.Units.{colon}
-use Rattle.components.specs.Components.{split, components}
-use Rattle.components.specs.Positions.{partOf}
-use Rattle.paths.specs.Paths.{Leaf, leafOf}
-use Rattle.paths.specs.Positions.{asLeaf, asPath, named, checked}
-use Rattle.paths.specs.declared.ParsedPath.{ParsedPath}
-use Rattle.paths.specs.declared.ParsedPath.the-variants.{Invalid, Root, Named}
-use Rattle.paths.proofs.Judging.{checked-none, never-root, checked-some}
-use Rattle.paths.proofs.ParsedPath.{the-type}
+use Rattle.base.{specs.Base.{ℕ, Bool, true, false, List, _⊎_, Option, _≡_, take}, proofs.Laws.{⊎-elim, sym, ap, _∙_, arith, needs}}
 use denote.Enum.Declared.{tagOf}
-use Rattle.paths.proofs.checked_leaf.Statement.{statement}
+use Rattle.components.specs.{Components.{split, components}, Positions.partOf}
+use Rattle.units.specs.Units.{colon}
+use Rattle.paths.proofs.{Judging.{checked-none, never-root, checked-some}, ParsedPath.the-type, checked_leaf.Statement.statement}
+use Rattle.paths.specs.{Paths.{Leaf, leafOf}, Positions.{asLeaf, asPath, named, checked}, declared.ParsedPath.{ParsedPath, the-variants.{Invalid, Root, Named}}}
 use Rattle.paths.proofs.checked_leaf.Tie as tie
 
 leaf-parts-requires : tie.Need-leaf-parts-requires

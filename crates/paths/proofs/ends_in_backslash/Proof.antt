@@ -1,9 +1,7 @@
 -- `paths::ends_in_backslash` meets its contract, by the last unit.
-use mathlib.Core.Path.{sym}
-use borrow.Author.Needs.{needs}
+use Rattle.base.proofs.Laws.{sym, needs}
 use Rattle.units.specs.Units.{backslash}
-use Rattle.paths.proofs.Parsing.{ends-empty, ends-last}
-use Rattle.paths.proofs.ends_in_backslash.Statement.{statement}
+use Rattle.paths.proofs.{Parsing.{ends-empty, ends-last}, ends_in_backslash.Statement.statement}
 use Rattle.paths.proofs.ends_in_backslash.Tie as tie
 
 returns : tie.Need-returns

@@ -1,5 +1,5 @@
 -- `paths::is_data_type` meets its contract: `$DATA` is compared with ASCII case ignored.
-use borrow.Author.Needs.{needs}
+use Rattle.base.proofs.Laws.{needs}
 use Rattle.paths.proofs.is_data_type.Statement.{statement}
 use Rattle.paths.proofs.is_data_type.Tie as tie
 

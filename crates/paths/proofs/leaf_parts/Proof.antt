@@ -1,11 +1,9 @@
 -- `paths::leaf_parts` meets its contract: without a colon the component is the file's name.
-use mathlib.Core.Path.{sym, ap, _∙_}
+use Rattle.base.proofs.Laws.{sym, ap, _∙_, needs}
 use lib.Seq.{slice-empty}
-use borrow.Author.Needs.{needs}
 use Rattle.components.specs.Positions.{partOf, parentsOf}
+use Rattle.paths.proofs.{Parsing.{leaf-more, leaf-file}, leaf_parts.Statement.statement}
 use Rattle.paths.specs.Positions.{asLeaf, asPath, named}
-use Rattle.paths.proofs.Parsing.{leaf-more, leaf-file}
-use Rattle.paths.proofs.leaf_parts.Statement.{statement}
 use Rattle.paths.proofs.leaf_parts.Tie as tie
 
 units-before-requires : tie.Need-units-before-requires

@@ -1,19 +1,11 @@
 -- `paths::parse_components` meets its contract. The loop's invariant is the walk's `At` the present component; the measure
 -- is what is left of the path after it.
-use Prim.Native.Nat.{_-_}
-use mathlib.Core.Path.{_≡_, sym, ap, subst, subst⁻¹, _∙_}
-use native.Mathlib.Omega.{arith}
-use lib.ListN.{length}
-use borrow.Author.Needs.{needs}
-use borrow.Author.Tests.{not-true, not-false}
-use Rattle.records.specs.Sizes.{fileNameLimit}
+use Rattle.base.{specs.Base.{_-_, _≡_, length, fileNameLimit}, proofs.Laws.{sym, ap, subst, _∙_, arith, needs, not-true, not-false}}
+use mathlib.Core.Path.{subst⁻¹}
+use Rattle.components.{specs.{Positions.nextComponent, declared.Part.Part}, proofs.Places.{next-order, next-within}}
 use Rattle.names.specs.Names.{validFileName}
-use Rattle.components.specs.Positions.{nextComponent}
-use Rattle.components.specs.declared.Part.{Part}
-use Rattle.components.proofs.Places.{next-order, next-within}
+use Rattle.paths.proofs.{Walk.{At, first-none, at-first, at-next, at-bad, at-last}, parse_components.Statement.statement}
 use Rattle.paths.specs.Positions.{asPath}
-use Rattle.paths.proofs.Walk.{At, first-none, at-first, at-next, at-bad, at-last}
-use Rattle.paths.proofs.parse_components.Statement.{statement}
 use Rattle.paths.proofs.parse_components.Tie as tie
 
 abbrev Empty : Part → Type 0

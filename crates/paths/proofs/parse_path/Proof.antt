@@ -1,13 +1,8 @@
 -- `paths::parse_path` meets its contract.
-use mathlib.Core.Bool.{false, _&&_}
-use mathlib.Core.Logic.{⊎-elim}
-use mathlib.Core.Path.{_≡_, sym, _∙_}
-use borrow.Author.Needs.{needs}
-use Rattle.paths.specs.Paths.{endsIn}
-use Rattle.paths.specs.Positions.{asPath}
+use Rattle.base.{specs.Base.{false, _&&_, _≡_}, proofs.Laws.{⊎-elim, sym, _∙_, needs}}
 use Rattle.units.specs.Units.{backslash}
-use Rattle.paths.proofs.Judging.{path-long, path-trail, path-fits}
-use Rattle.paths.proofs.parse_path.Statement.{statement}
+use Rattle.paths.proofs.{Judging.{path-long, path-trail, path-fits}, parse_path.Statement.statement}
+use Rattle.paths.specs.{Paths.endsIn, Positions.asPath}
 use Rattle.paths.proofs.parse_path.Tie as tie
 
 returns : tie.Need-returns

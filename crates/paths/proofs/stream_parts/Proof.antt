@@ -1,11 +1,8 @@
 -- `paths::stream_parts` meets its contract: a type follows the second colon, or the stream's name ends the component.
-use mathlib.Core.Bool.{true, false}
-use mathlib.Core.Path.{sym, ap, _∙_}
-use borrow.Author.Needs.{needs}
+use Rattle.base.{specs.Base.{true, false}, proofs.Laws.{sym, ap, _∙_, needs}}
 use Rattle.components.specs.Positions.{partOf, parentsOf}
+use Rattle.paths.proofs.{Parsing.{stream-type, stream-empty, stream-only}, stream_parts.Statement.statement}
 use Rattle.paths.specs.Positions.{asLeaf, asPath, named}
-use Rattle.paths.proofs.Parsing.{stream-type, stream-empty, stream-only}
-use Rattle.paths.proofs.stream_parts.Statement.{statement}
 use Rattle.paths.proofs.stream_parts.Tie as tie
 
 units-before-requires : tie.Need-units-before-requires

@@ -1,13 +1,9 @@
 -- `paths::valid_leaf` meets its contract, by the names and the colon.
-use mathlib.Core.Path.{_≡_, sym, ap, _∙_}
-use borrow.Author.Needs.{needs}
-use borrow.Author.Tests.{not-true, not-false}
-use Rattle.records.specs.Sizes.{fileNameLimit, streamNameLimit}
-use Rattle.names.specs.Names.{validFileName, validStreamName}
+use Rattle.base.{specs.Base.{_≡_, fileNameLimit, streamNameLimit}, proofs.Laws.{sym, ap, _∙_, needs, not-true, not-false}}
 use Rattle.components.specs.Positions.{partOf}
+use Rattle.names.specs.Names.{validFileName, validStreamName}
+use Rattle.paths.proofs.{Judging.{leaf-file-bad, leaf-stream-bad, leaf-of-directory, leaf-of-any}, valid_leaf.Statement.statement}
 use Rattle.paths.specs.Positions.{asLeaf}
-use Rattle.paths.proofs.Judging.{leaf-file-bad, leaf-stream-bad, leaf-of-directory, leaf-of-any}
-use Rattle.paths.proofs.valid_leaf.Statement.{statement}
 use Rattle.paths.proofs.valid_leaf.Tie as tie
 
 part-of-requires : tie.Need-part-of-requires

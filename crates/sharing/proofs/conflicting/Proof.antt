@@ -1,7 +1,7 @@
 -- `sharing::conflicting` meets its contract: the six tests of the kinds and the two of being counted are the definition's.
-use Rattle.sharing.specs.Sharing.{conflict, conflicting, anyKind, holds, shares, accessBits, shareBit}
-use borrow.Author.Needs.{needs}
+use Rattle.base.proofs.Laws.{needs}
 use Rattle.sharing.proofs.conflicting.Statement.{statement}
+use Rattle.sharing.specs.Sharing.{conflict, conflicting, anyKind, holds, shares, accessBits, shareBit}
 use Rattle.sharing.proofs.conflicting.Tie as tie
 
 unshared-requires : tie.Need-unshared-requires

@@ -1,7 +1,7 @@
 -- `sharing::counted` meets its contract: one test for each kind.
-use borrow.Author.Needs.{needs}
-use Rattle.sharing.specs.Sharing.{anyKind, holds, counted, accessBits}
+use Rattle.base.proofs.Laws.{needs}
 use Rattle.sharing.proofs.counted.Statement.{statement}
+use Rattle.sharing.specs.Sharing.{anyKind, holds, counted, accessBits}
 use Rattle.sharing.proofs.counted.Tie as tie
 
 has-requires : tie.Need-has-requires

@@ -1,8 +1,7 @@
 -- `sharing::counts_of_one` meets its contract: where the open is counted, each field is the kind's test; else all are zero.
-use Rattle.lists.specs.Lists.{count}
-use Rattle.sharing.specs.Sharing.{countsOfAll, isHolder, isSharer, holds, shares, accessBits, shareBit}
-use borrow.Author.Needs.{needs}
+use Rattle.base.{specs.Base.count, proofs.Laws.needs}
 use Rattle.sharing.proofs.counts_of_one.Statement.{statement}
+use Rattle.sharing.specs.Sharing.{countsOfAll, isHolder, isSharer, holds, shares, accessBits, shareBit}
 use Rattle.sharing.proofs.counts_of_one.Tie as tie
 
 counted-requires : tie.Need-counted-requires

@@ -1,5 +1,5 @@
 -- `sharing::kind_conflicts` meets its contract: the code is the definition's four tests.
-use mathlib.Core.Path.{refl}
+use Rattle.base.proofs.Laws.{refl}
 use Rattle.sharing.proofs.kind_conflicts.Statement.{statement}
 use Rattle.sharing.proofs.kind_conflicts.Tie as tie
 

@@ -1,5 +1,5 @@
 -- `sharing::minus` meets its contract: the difference, which is 0 where there is none.
-use native.Mathlib.Omega.{arith}
+use Rattle.base.proofs.Laws.{arith}
 use Rattle.sharing.proofs.minus.Statement.{statement}
 use Rattle.sharing.proofs.minus.Tie as tie
 

@@ -1,5 +1,5 @@
 -- `sharing::one_if_has` meets its contract: the test decides.
-use borrow.Author.Needs.{needs}
+use Rattle.base.proofs.Laws.{needs}
 use Rattle.sharing.proofs.one_if_has.Statement.{statement}
 use Rattle.sharing.proofs.one_if_has.Tie as tie
 

@@ -1,8 +1,7 @@
 -- `sharing::plus` meets its contract: below the limit the sum, else the limit.
-use Rattle.sharing.specs.Saturating.{plusUpTo}
-use native.Mathlib.Omega.{arith}
-use borrow.Author.Needs.{needs}
+use Rattle.base.proofs.Laws.{arith, needs}
 use Rattle.sharing.proofs.plus.Statement.{statement}
+use Rattle.sharing.specs.Saturating.{plusUpTo}
 use Rattle.sharing.proofs.plus.Tie as tie
 
 sub-if1 : tie.Need-sub-if1

@@ -1,7 +1,7 @@
 -- `sharing::share_check` meets its contract: each kind's test is the definition's.
-use Rattle.sharing.specs.Sharing.{shareCheck, counted, anyKind, holds, shares, accessBits, shareBit, holders, sharers}
-use borrow.Author.Needs.{needs}
+use Rattle.base.proofs.Laws.{needs}
 use Rattle.sharing.proofs.share_check.Statement.{statement}
+use Rattle.sharing.specs.Sharing.{shareCheck, counted, anyKind, holds, shares, accessBits, shareBit, holders, sharers}
 use Rattle.sharing.proofs.share_check.Tie as tie
 
 has-requires : tie.Need-has-requires

@@ -1,5 +1,5 @@
 -- `sharing::unshared` meets its contract: the code is the definition's two tests.
-use borrow.Author.Needs.{needs}
+use Rattle.base.proofs.Laws.{needs}
 use Rattle.sharing.proofs.unshared.Statement.{statement}
 use Rattle.sharing.proofs.unshared.Tie as tie
 

@@ -1,9 +1,7 @@
 -- `sharing::with_open` meets its contract: each field is the sum with what the open adds.
-use Rattle.lists.specs.Lists.{count}
-use Rattle.sharing.specs.Saturating.{withOpenUpTo}
-use Rattle.sharing.specs.Sharing.{countsOfAll, holders, sharers, changedBy}
-use borrow.Author.Needs.{needs}
+use Rattle.base.{specs.Base.count, proofs.Laws.needs}
 use Rattle.sharing.proofs.with_open.Statement.{statement}
+use Rattle.sharing.specs.{Saturating.withOpenUpTo, Sharing.{countsOfAll, holders, sharers, changedBy}}
 use Rattle.sharing.proofs.with_open.Tie as tie
 
 counts-of-one-requires : tie.Need-counts-of-one-requires

@@ -1,8 +1,7 @@
 -- `sharing::without_open` meets its contract: each field is the difference with what the open adds.
-use Rattle.lists.specs.Lists.{count}
-use Rattle.sharing.specs.Sharing.{countsOfAll, holders, sharers, changedBy, withoutOpen}
-use borrow.Author.Needs.{needs}
+use Rattle.base.{specs.Base.count, proofs.Laws.needs}
 use Rattle.sharing.proofs.without_open.Statement.{statement}
+use Rattle.sharing.specs.Sharing.{countsOfAll, holders, sharers, changedBy, withoutOpen}
 use Rattle.sharing.proofs.without_open.Tie as tie
 
 counts-of-one-requires : tie.Need-counts-of-one-requires

@@ -1,11 +1,10 @@
 -- `step4_paths::answer_lines` is safe and ends: each turn passes a line with its end.
 use Prim.Native.Nat.{ℕ, _≤_, _<_, _-_}
+use borrow.Author.Needs.{needs}
+use lib.ListN.{length, drop, length-drop}
 use mathlib.Core.List.{List}
 use native.Mathlib.Omega.{arith}
-use lib.ListN.{length, drop, length-drop}
-use borrow.Author.Needs.{needs}
-use Rattle.components.specs.Positions.{noSign, placeOf}
-use Rattle.components.proofs.Leading.{leading-le}
+use Rattle.components.{specs.Positions.{noSign, placeOf}, proofs.Leading.leading-le}
 use Rattle.step4_paths.proofs.answer_lines.Statement.{statement}
 use Rattle.step4_paths.proofs.answer_lines.Tie as tie
 

@@ -1,7 +1,7 @@
 -- `step4_paths::say_part` is safe and ends. The loop's invariant: i is at most the length.
 use Prim.Native.Nat.{_≤_, _-_}
-use lib.ListN.{length}
 use borrow.Author.Needs.{needs}
+use lib.ListN.{length}
 use Rattle.step4_paths.proofs.say_part.Statement.{statement}
 use Rattle.step4_paths.proofs.say_part.Tie as tie
 

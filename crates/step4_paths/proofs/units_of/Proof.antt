@@ -1,8 +1,8 @@
 -- `step4_paths::units_of` answers 65,536 units. The loop's invariant: the array is as long as it began.
 use Prim.Native.Nat.{ℕ, _-_}
-use mathlib.Core.Path.{_≡_}
-use lib.ListN.{length, length-replicate}
 use borrow.Author.Needs.{needs}
+use lib.ListN.{length, length-replicate}
+use mathlib.Core.Path.{_≡_}
 use Rattle.step4_paths.proofs.units_of.Statement.{statement}
 use Rattle.step4_paths.proofs.units_of.Tie as tie
 

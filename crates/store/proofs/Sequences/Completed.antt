@@ -1,37 +1,10 @@
 -- How a pending open ends: refused, with SHARING_VIOLATION exactly for a conflict; or accepted, with a consistent
 -- namespace after its change, an open that may join the table, a free slot, and no conflict.
-use Prim.Native.Nat.{ℕ}
+use Rattle.base.{specs.Base.{ℕ, writes, Refusal, _>>=_, _>>_, passed, refuseIf, shareRead, BareStream, Namespace, bareAt, bareUsed, statusNumber, Terms, termsOf, Created, FileNo, Handle, Open, Request, FileCorruptError, SharingViolation, length, Bool, false, not, true, List, _⊎_, inl, inr, Option, none, some, _≡_}, proofs.Laws.{not-both, Ends, ends-bind, ends-test, ends-weaker, goes, stops, eq-eqb, not-false, _∙_, ap, refl, subst, sym, arith}}
+use lib.{Bits.or-lt, Dec.lit<}
 use Rattle.consistency.specs.Good.{GoodTerms}
-use Rattle.lists.proofs.Tests.{not-both}
-use Rattle.lists.specs.Lists.{writes}
-use Rattle.records.proofs.Checked.{Ends, ends-bind, ends-test, ends-weaker, goes, stops}
-use Rattle.records.specs.Checked.{Refusal, _>>=_, _>>_, _>>_, passed, refuseIf}
-use Rattle.records.specs.Constants.{shareRead}
-use Rattle.records.specs.Namespace.{BareStream, Namespace, bareAt, bareUsed}
-use Rattle.records.specs.Numbers.{statusNumber}
-use Rattle.records.specs.Terms.{Terms, termsOf}
-use Rattle.records.specs.declared.CreateAction.the-variants.{Created}
-use Rattle.records.specs.declared.FileNo.{FileNo}
-use Rattle.records.specs.declared.Handle.{Handle}
-use Rattle.records.specs.declared.Open.{Open}
-use Rattle.records.specs.declared.Request.{Request}
-use Rattle.records.specs.declared.Status.the-variants.{FileCorruptError, SharingViolation}
-use Rattle.store.proofs.Sequences.Changes.Attributes.{attributes-kept}
-use Rattle.store.proofs.Sequences.Changes.Placed.{placed-well}
-use Rattle.store.proofs.Sequences.Facts.{AttributesFit, Early, ExistingFits, Joins, NamespaceConsistent, Other, PendingFits, PlacedWell, StreamsKept}
-use Rattle.store.proofs.Sequences.Prepared.{prepare-ends}
-use Rattle.store.specs.Complete.{Decision, Placed, View, attributeChange, changed, complete, decide, newOpen, nextHandle, placeExisting, shareOf, withShareRead}
-use Rattle.store.specs.Prepare.{Existing, Pending, ReadSharing, addedIfAlone, asOffered, creating, deniedIfAlone, existing}
-use borrow.Author.Tests.{eq-eqb, not-false}
-use lib.Bits.{or-lt}
-use lib.ListN.{length}
-use mathlib.Core.Bool.{Bool, false, not, true}
-use mathlib.Core.List.{List}
-use mathlib.Core.Logic.{_⊎_, inl, inr}
-use mathlib.Core.Option.{Option, none, some}
-use mathlib.Core.Path.{_∙_, _≡_, ap, refl, subst, sym}
-use native.Mathlib.Omega.{arith}
-use lib.Dec.{lit<}
+use Rattle.store.proofs.Sequences.{Changes.{Attributes.attributes-kept, Placed.placed-well}, Facts.{AttributesFit, Early, ExistingFits, Joins, NamespaceConsistent, Other, PendingFits, PlacedWell, StreamsKept}, Prepared.prepare-ends}
+use Rattle.store.specs.{Complete.{Decision, Placed, View, attributeChange, changed, complete, decide, newOpen, nextHandle, placeExisting, shareOf, withShareRead}, Prepare.{Existing, Pending, ReadSharing, addedIfAlone, asOffered, creating, deniedIfAlone, existing}}
 
 -- why an accepted open conflicts with none: the check said so, of its terms or of terms that share less; or its stream is
 -- new

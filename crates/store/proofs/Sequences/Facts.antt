@@ -1,35 +1,13 @@
 -- The facts that pass between the parts of the proof: what a consistent namespace is, what a pending open may rely on, and
 -- what its placing leaves.
-use Prim.Native.Nat.{suc, ℕ}
-use Rattle.consistency.specs.Consistent.{Consistent, FilesConsistent, GoodOpenOf, LinksConsistent, StreamsConsistent}
-use Rattle.consistency.specs.Good.{GoodAttributes, GoodFile, GoodTerms}
-use Rattle.lists.specs.Lists.{any}
+use Rattle.base.specs.Base.{suc, ℕ, any, Refusal, BareStream, Namespace, bareAt, bareUsed, namespace, statusNumber, fileNameLimit, streamNameLimit, fileUsed, isData, isDirectory, File, FileNo, Open, OpenTable, FileCorruptError, SharingViolation, Status, StreamNo, Volume, eqb, length, Bool, false, true, List, [], some, _≡_}
+use Rattle.consistency.specs.{Consistent.{Consistent, FilesConsistent, GoodOpenOf, LinksConsistent, StreamsConsistent}, Good.{GoodAttributes, GoodFile, GoodTerms}}
 use Rattle.lookup.specs.Lookup.{linkMatches}
 use Rattle.names.specs.Names.{validFileName, validStreamName}
 use Rattle.paths.specs.Paths.{Leaf}
-use Rattle.records.specs.Checked.{Refusal}
-use Rattle.records.specs.Namespace.{BareStream, Namespace, bareAt, bareUsed, namespace}
-use Rattle.records.specs.Numbers.{statusNumber}
-use Rattle.records.specs.Sizes.{fileNameLimit, streamNameLimit}
-use Rattle.records.specs.Slots.{fileUsed, isData, isDirectory}
-use Rattle.records.specs.declared.File.{File}
-use Rattle.records.specs.declared.FileNo.{FileNo}
-use Rattle.records.specs.declared.Open.{Open}
-use Rattle.records.specs.declared.OpenTable.{OpenTable}
-use Rattle.records.specs.declared.Status.the-variants.{FileCorruptError, SharingViolation}
-use Rattle.records.specs.declared.Status.{Status}
-use Rattle.records.specs.declared.StreamNo.{StreamNo}
-use Rattle.records.specs.declared.Volume.{Volume}
-use Rattle.store.specs.Complete.{Placed, changed}
-use Rattle.store.specs.Prepare.{Creation, Existing, Pending, creating, existing, newFile, newStream}
 use Rattle.stream_lookup.specs.StreamLookup.{streamMatches}
 use Rattle.tables.specs.Tables.{fileAt}
-use lib.Dec.{eqb}
-use lib.ListN.{length}
-use mathlib.Core.Bool.{Bool, false, true}
-use mathlib.Core.List.{List, []}
-use mathlib.Core.Option.{some}
-use mathlib.Core.Path.{_≡_}
+use Rattle.store.specs.{Complete.{Placed, changed}, Prepare.{Creation, Existing, Pending, creating, existing, newFile, newStream}}
 
 -- the groups of consistency that do not look at the opens
 pub record NamespaceConsistent (ns : Namespace) : Type 0 where

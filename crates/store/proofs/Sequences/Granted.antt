@@ -1,34 +1,11 @@
 -- What the access rule grants on a used file may be stored: it is not zero, and lies within 0x1F01FF.
-use Prim.Native.Nat.{ℕ}
-use Rattle.access.specs.Access.{accessFrom, accessRule, checkedAccess, effective, need}
-use Rattle.access.specs.declared.Access.the-variants.{Denied, Granted}
+use Rattle.base.{specs.Base.{ℕ, has, within, without, all, allAccess, maximumAllowed, readOnly, Namespace, statusNumber, accounts, fileUsed, isData, maskOf, File, FileNo, Request, eqb, length, Bool, _&&_, _||_, cond, false, not, true, _≢_, _≡_}, proofs.Laws.{and-right, or-neither, all-slots, Ends, ends-bind, goes, stops, eqb-false, not-false, _∙_, refl, sym}}
+use Rattle.access.specs.{Access.{accessFrom, accessRule, checkedAccess, effective, need}, declared.Access.the-variants.{Denied, Granted}}
 use Rattle.bits.proofs.Sets.{within-less, within-self, within-trans, within-zero, without-none}
-use Rattle.bits.specs.Bits.{has, within, without}
-use Rattle.consistency.proofs.Derived.{file-good}
-use Rattle.consistency.specs.Good.{GoodTerms}
-use Rattle.consistency.specs.Relations.{validMasks}
-use Rattle.lists.proofs.Tests.{and-right, or-neither}
-use Rattle.lists.proofs.All.{all-slots}
-use Rattle.lists.specs.Lists.{all}
-use Rattle.records.proofs.Checked.{Ends, ends-bind, goes, stops}
-use Rattle.records.specs.Constants.{allAccess, maximumAllowed, readOnly}
-use Rattle.records.specs.Namespace.{Namespace}
-use Rattle.records.specs.Numbers.{statusNumber}
-use Rattle.records.specs.Sizes.{accounts}
-use Rattle.records.specs.Slots.{fileUsed, isData, maskOf}
-use Rattle.records.specs.declared.File.{File}
-use Rattle.records.specs.declared.FileNo.{FileNo}
-use Rattle.records.specs.declared.Request.{Request}
-use Rattle.store.proofs.Sequences.Facts.{Early, NamespaceConsistent}
-use Rattle.store.proofs.Sequences.Requested.{RequestFits}
-use Rattle.store.specs.Prepare.{grant}
+use Rattle.consistency.{proofs.Derived.file-good, specs.{Good.GoodTerms, Relations.validMasks}}
 use Rattle.tables.specs.Tables.{fileAt}
-use borrow.Author.Tests.{eqb-false, not-false}
-use lib.Dec.{eqb}
-use lib.ListN.{length}
-use mathlib.Core.Bool.{Bool, _&&_, _||_, cond, false, not, true}
-use mathlib.Core.Logic.{_≢_}
-use mathlib.Core.Path.{_∙_, _≡_, refl, sym}
+use Rattle.store.proofs.Sequences.{Facts.{Early, NamespaceConsistent}, Requested.RequestFits}
+use Rattle.store.specs.Prepare.{grant}
 
 mask-within : (f : File) (account : ℕ) → validMasks (f .masks) ≡ true → within (maskOf f account) allAccess ≡ true
 unfolding validMasks maskOf

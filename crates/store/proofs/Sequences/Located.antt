@@ -1,40 +1,16 @@
 -- What the searches find in a consistent namespace: where a path leads, to a used file or to a directory without the
 -- name, and which stream of a file a name is.
-use Prim.Native.Nat.{suc, zero, ℕ}
-use Rattle.consistency.proofs.Numbered.{directory-used, same-file}
-use Rattle.consistency.specs.Relations.{streamOf, unnamedOf}
-use Rattle.lists.proofs.Tests.{and-left, and-right}
-use Rattle.lists.proofs.Any.{any-same}
-use Rattle.lists.proofs.Count.{any-count}
-use Rattle.lists.proofs.First.{first-found, first-none}
-use Rattle.lists.specs.Lists.{any, first, isEmpty, same}
+use Rattle.base.{specs.Base.{suc, zero, ℕ, any, first, isEmpty, same, _>>=_, passed, someOr, BareStream, Namespace, bareAt, bareUsed, zeroBare, statusNumber, fileNameLimit, fileUsed, isDirectory, linkUsed, root, zeroLink, FileNo, LinkNo, FileCorruptError, StreamNo, eqb, getD, Bool, _&&_, false, not, true, List, [], _∷_, map, Option, none, some, _≡_}, proofs.Laws.{and-left, and-right, any-same, any-count, first-found, first-none, Ends, ends-bind, ends-cond, goes, stops, eqb-true, false≢true, _∙_, ap, refl, sym, arith}}
+use lib.Dec.{eqb·suc-zero}
+use Rattle.consistency.{proofs.Numbered.{directory-used, same-file}, specs.Relations.{streamOf, unnamedOf}}
 use Rattle.lookup.specs.Lookup.{Place, descend, findLink, found, foundRoot, linkMatches, linkNumber, locate, locateLeaf, missing, placeIn, stepInto}
 use Rattle.names.specs.Names.{validFileName}
-use Rattle.paths.proofs.Parsed.{LeafFits}
-use Rattle.paths.specs.Paths.{Leaf, Path}
-use Rattle.records.proofs.Checked.{Ends, ends-bind, ends-cond, goes, stops}
-use Rattle.records.specs.Checked.{_>>=_, passed, someOr}
-use Rattle.records.specs.Namespace.{BareStream, Namespace, bareAt, bareUsed, zeroBare}
-use Rattle.records.specs.Numbers.{statusNumber}
-use Rattle.records.specs.Sizes.{fileNameLimit}
-use Rattle.records.specs.Slots.{fileUsed, isDirectory, linkUsed, root, zeroLink}
-use Rattle.records.specs.declared.FileNo.{FileNo}
-use Rattle.records.specs.declared.LinkNo.{LinkNo}
-use Rattle.records.specs.declared.Status.the-variants.{FileCorruptError}
-use Rattle.records.specs.declared.StreamNo.{StreamNo}
+use Rattle.paths.{proofs.Parsed.LeafFits, specs.Paths.{Leaf, Path}}
 use Rattle.stored_names.specs.StoredNames.{units}
-use Rattle.store.proofs.Sequences.Facts.{Early, NamespaceConsistent}
 use Rattle.stream_lookup.specs.StreamLookup.{findStream, streamMatches, streamNumber}
 use Rattle.tables.specs.Tables.{fileAt, linkAt}
 use Rattle.units.specs.Units.{equalUnits, folded}
-use borrow.Author.Tests.{eqb-true}
-use lib.Dec.{eqb, eqb·suc-zero}
-use lib.ListN.{getD}
-use mathlib.Core.Bool.{Bool, _&&_, false, false≢true, not, true}
-use mathlib.Core.List.{List, [], _∷_, map}
-use mathlib.Core.Option.{Option, none, some}
-use mathlib.Core.Path.{_∙_, _≡_, ap, refl, sym}
-use native.Mathlib.Omega.{arith}
+use Rattle.store.proofs.Sequences.Facts.{Early, NamespaceConsistent}
 
 -- a name that a directory may gain
 pub record MissingFits (ns : Namespace) (fold wantsDirectory : Bool) (dir : FileNo) (leaf : Leaf) : Type 0 where

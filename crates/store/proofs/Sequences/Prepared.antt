@@ -1,47 +1,15 @@
 -- The steps before the sharing check, followed once. On a consistent namespace none of them refuses with
 -- FILE_CORRUPT_ERROR or SHARING_VIOLATION, and the pending open that they leave fits the namespace.
-use Prim.Native.Nat.{_≤_, ℕ}
+use Rattle.base.{specs.Base.{_≤_, ℕ, any, isEmpty, oneOf, Checked, _>>_, passed, create, openIf, openOnly, writeData, Namespace, statusNumber, streamNameLimit, fileUsed, isData, isDirectory, isUsed, streamUsed, FileNo, FileType, Request, AccessDenied, FileIsADirectory, NotADirectory, ObjectNameCollision, Status, StreamNo, bitOr, eqb, Bool, _&&_, cond, false, true, List, [], _∷_, _≢_, Option, none, some, _≡_, Unused, Data, Directory}, proofs.Laws.{none≢some, Ends, ends-bind, ends-cond, ends-test, ends-weaker, goes, went, false≢true, true≢false, Option·some-injective, refl, subst, arith}}
 use Rattle.bits.proofs.Sets.{within-le, within-or-l}
-use Rattle.consistency.proofs.Derived.{file-good}
-use Rattle.consistency.proofs.Numbered.{directory-used}
-use Rattle.consistency.specs.Good.{GoodAttributes}
-use Rattle.lists.proofs.Tests.{none≢some}
-use Rattle.lists.specs.Lists.{any, isEmpty, oneOf}
+use Rattle.consistency.{proofs.{Derived.file-good, Numbered.directory-used}, specs.Good.GoodAttributes}
 use Rattle.lookup.specs.Lookup.{Place, Resolved, found, missing}
 use Rattle.names.specs.Names.{validStreamName}
-use Rattle.paths.proofs.Parsed.{LeafFits, parsed-ends}
-use Rattle.paths.specs.Paths.{Leaf}
-use Rattle.records.proofs.Checked.{Ends, ends-bind, ends-cond, ends-test, ends-weaker, goes, went}
-use Rattle.records.specs.Checked.{Checked, _>>_, passed}
-use Rattle.records.specs.Constants.{create, openIf, openOnly, writeData}
-use Rattle.records.specs.Namespace.{Namespace}
-use Rattle.records.specs.Numbers.{statusNumber}
-use Rattle.records.specs.Sizes.{streamNameLimit}
-use Rattle.records.specs.Slots.{fileUsed, isData, isDirectory, isUsed, streamUsed}
-use Rattle.records.specs.declared.FileNo.{FileNo}
-use Rattle.records.specs.declared.FileType.{FileType}
-use Rattle.records.specs.declared.Request.{Request}
-use Rattle.records.specs.declared.Status.the-variants.{AccessDenied, FileIsADirectory, NotADirectory, ObjectNameCollision}
-use Rattle.records.specs.declared.Status.{Status}
-use Rattle.records.specs.declared.StreamNo.{StreamNo}
-use Rattle.store.proofs.Sequences.Facts.{AttributesFit, Early, NamespaceConsistent, PendingFits}
-use Rattle.store.proofs.Sequences.Granted.{grant-ends}
-use Rattle.store.proofs.Sequences.Located.{MissingFits, PlaceFits, SearchFits, StreamThere, located-ends, searched, unnamed-ends}
-use Rattle.store.proofs.Sequences.Requested.{RequestFits, archived, attributes-new, granted-new, replaced, requested}
-use Rattle.store.specs.Prepare.{Pending, ReadSharing, admit, admitFile, admitOpen, admitReplace, admitStream, asOffered, fileNew, gained, newType, prepare, replacement}
-use Rattle.store.specs.Request.{wantsDirectory, wantsFile}
-use Rattle.store.specs.Target.{Target, existingDirectory, existingStream, missingFile, missingStream, target, targetAt, targetData, targetDirectory, targetFound, targetNew, wrongType}
+use Rattle.paths.{proofs.Parsed.{LeafFits, parsed-ends}, specs.Paths.Leaf}
 use Rattle.stream_lookup.specs.StreamLookup.{streamMatches, findStream}
 use Rattle.tables.specs.Tables.{fileAt}
-use lib.Bits.{bitOr}
-use lib.Dec.{eqb}
-use mathlib.Core.Bool.{Bool, _&&_, cond, false, false≢true, true, true≢false}
-use mathlib.Core.List.{List, [], _∷_}
-use mathlib.Core.Logic.{_≢_}
-use mathlib.Core.Option.{Option, Option·some-injective, none, some}
-use mathlib.Core.Path.{_≡_, refl, subst}
-use native.Mathlib.Omega.{arith}
-use Rattle.records.specs.declared.FileType.the-variants.{Unused, Data, Directory}
+use Rattle.store.proofs.Sequences.{Facts.{AttributesFit, Early, NamespaceConsistent, PendingFits}, Granted.grant-ends, Located.{MissingFits, PlaceFits, SearchFits, StreamThere, located-ends, searched, unnamed-ends}, Requested.{RequestFits, archived, attributes-new, granted-new, replaced, requested}}
+use Rattle.store.specs.{Prepare.{Pending, ReadSharing, admit, admitFile, admitOpen, admitReplace, admitStream, asOffered, fileNew, gained, newType, prepare, replacement}, Request.{wantsDirectory, wantsFile}, Target.{Target, existingDirectory, existingStream, missingFile, missingStream, target, targetAt, targetData, targetDirectory, targetFound, targetNew, wrongType}}
 
 -- a status by a test
 early-cond : (b : Bool) (x y : Status) → Early (record { status = x }) → Early (record { status = y })

@@ -1,25 +1,8 @@
 -- What steps 1 and 2 leave of a request's numbers, and the numbers that steps 9 and 11 make of them.
-use Prim.Native.Nat.{_≤_, ℕ}
+use Rattle.base.{specs.Base.{_≤_, ℕ, has, within, without, oneOf, allAccess, appendData, archive, directory, fileAttributes, maximumAllowed, notContentIndexed, overwrite, overwriteIf, supersede, isDirectory, File, Data, Directory, Request, bitAnd, bitOr, eqb, ltb, Bool, _&&_, _||_, cond, false, not, true, [], _∷_, _≢_, _≡_}, proofs.Laws.{or-neither, eqb-false, not-false, ltb-false, _∙_, ap₂, refl, arith}}
 use Rattle.bits.proofs.Sets.{has-iff-false, has-meets, has-or, has-subset, within-and-r, within-iff, within-less, within-mono, within-or, within-self, within-split, without-clears}
-use Rattle.bits.specs.Bits.{has, within, without}
 use Rattle.consistency.specs.Good.{GoodAttributes, GoodTerms}
-use Rattle.lists.proofs.Tests.{or-neither}
-use Rattle.lists.specs.Lists.{oneOf}
-use Rattle.records.specs.Constants.{allAccess, appendData, archive, directory, fileAttributes, maximumAllowed, notContentIndexed, overwrite, overwriteIf, supersede}
-use Rattle.records.specs.Slots.{isDirectory}
-use Rattle.records.specs.declared.File.{File}
-use Rattle.records.specs.declared.FileType.the-variants.{Data, Directory}
-use Rattle.records.specs.declared.Request.{Request}
-use Rattle.store.specs.Prepare.{attributesNew, grantedNew, newType}
-use Rattle.store.specs.Request.{badAccess, badParameters, wantsDirectory}
-use borrow.Author.Tests.{eqb-false, not-false, ltb-false}
-use lib.Bits.{bitAnd, bitOr}
-use lib.Dec.{eqb, ltb}
-use mathlib.Core.Bool.{Bool, _&&_, _||_, cond, false, not, true}
-use mathlib.Core.List.{[], _∷_}
-use mathlib.Core.Logic.{_≢_}
-use mathlib.Core.Path.{_∙_, _≡_, ap₂, refl}
-use native.Mathlib.Omega.{arith}
+use Rattle.store.specs.{Prepare.{attributesNew, grantedNew, newType}, Request.{badAccess, badParameters, wantsDirectory}}
 
 pub record RequestFits (r : Request) : Type 0 where
   pub accessNonzero : r .access ≢ 0

@@ -1,51 +1,9 @@
 -- Each kind of call keeps tables and model related, and is answered alike.
-use Prim.Native.Nat.{_<_, suc, ℕ}
-use Rattle.consistency.proofs.Derived.{free-unopened}
-use Rattle.consistency.specs.Consistent.{Consistent, CountsTrue, FilesConsistent, LinksConsistent, NoConflicts, OpensConsistent, StreamsConsistent, openAt}
-use Rattle.consistency.specs.Relations.{live}
-use Rattle.lists.proofs.Any.{none-too}
-use Rattle.lists.proofs.First.{perm-apart}
-use Rattle.lists.proofs.Permutations.{perm-sym}
-use Rattle.lists.specs.Lists.{Permutation, any, both, find, keep, skip, writes}
-use Rattle.records.proofs.Checked.{Ends, goes, stops}
-use Rattle.records.specs.Checked.{Checked, Refusal, _>>=_, _>>=_, _>>_, passed, refuseIf, refused, someOr}
-use Rattle.records.specs.Constants.{shareRead}
-use Rattle.records.specs.Namespace.{Namespace, bareAt, bareUsed, namespace}
-use Rattle.records.specs.Numbers.{seen, statusNumber}
-use Rattle.records.specs.Slots.{openUsed, zeroOpen}
-use Rattle.records.specs.State.{Step, Tables, concluded}
-use Rattle.records.specs.Terms.{Terms, termsOf}
-use Rattle.records.specs.declared.Handle.{Handle}
-use Rattle.records.specs.declared.Open.{Open}
-use Rattle.records.specs.declared.Request.{Request}
-use Rattle.records.specs.declared.Status.the-variants.{FileCorruptError, InvalidHandle}
-use Rattle.records.specs.declared.StreamNo.{StreamNo}
-use Rattle.sharing.proofs.Check.{any-conflict-perm}
-use Rattle.sharing.specs.Sharing.{anyConflict, conflict, onStream, withoutOpen}
-use Rattle.store.proofs.Sequences.Completed.{DecisionFits, Unopposed, decide-ends}
-use Rattle.store.proofs.Sequences.Facts.{Joins, NamespaceConsistent, Other, namespace-of}
-use Rattle.store.proofs.Sequences.Opens.Close.{Struck, handle-is, handle-used, one-handle, others-kept, struck}
-use Rattle.store.proofs.Sequences.Opens.Conflicts.{share-more}
-use Rattle.store.proofs.Sequences.Opens.Counts.{counts-joined, counts-left, counts-written}
-use Rattle.store.proofs.Sequences.Opens.Join.{conflicts-joined, joined, joined-live, joins-used}
-use Rattle.store.proofs.Sequences.Opens.Leave.{conflicts-left, left, left-live}
-use Rattle.store.proofs.Sequences.Opens.Names.{changed-names, used-below, with-open-names, without-open-names}
-use Rattle.store.proofs.Sequences.Opens.Table.{opens-kept}
-use Rattle.store.proofs.Sequences.Views.{Related, closing-alike, decided-alike, room-same}
-use Rattle.store.specs.Calls.{Call, closes, modelStep, opens, setsReadOnly, storeStep}
-use Rattle.store.specs.Complete.{Change, Closing, Decision, changed, decide, decideClose, newOpen, nextHandle, noChange, withShareRead}
-use Rattle.store.specs.Model.{Model, modelClose, modelClosed, modelOpen, modelOpened, modelSetReadOnly, modelView, namespaceMarked}
-use Rattle.store.specs.Sequences.{handleOf, isCorrupt}
-use Rattle.store.specs.Store.{changedVolume, closed, hasHandle, opened, recount, storeClose, storeOpen, storeSetReadOnly, storeView, volumeMarked, volumeWithOpen, volumeWithoutOpen, whenConsistent}
-use lib.ListN.{length, set}
-use mathlib.Core.Bool.{Bool, _&&_, false, not, true}
-use mathlib.Core.List.{List, _∷_}
-use mathlib.Core.Logic.{_⊎_, inl, inr, ⊎-elim}
-use mathlib.Core.Option.{Option, none, some}
-use mathlib.Core.Path.{_∙_, _≡_, refl, subst, sym}
-use Rattle.records.specs.State.{done}
-use mathlib.Core.Path.{ap}
-use Rattle.consistency.proofs.Equivalence.{consistent-iff}
+use Rattle.base.{specs.Base.{_<_, suc, ℕ, Permutation, any, both, find, keep, skip, writes, Checked, Refusal, _>>=_, _>>_, passed, refuseIf, refused, someOr, shareRead, Namespace, bareAt, bareUsed, namespace, seen, statusNumber, openUsed, zeroOpen, Step, Tables, concluded, Terms, termsOf, Handle, Open, Request, FileCorruptError, InvalidHandle, StreamNo, length, set, Bool, _&&_, false, not, true, List, _∷_, _⊎_, inl, inr, Option, none, some, _≡_, done}, proofs.Laws.{none-too, perm-apart, perm-sym, Ends, goes, stops, ⊎-elim, _∙_, refl, subst, sym, ap}}
+use Rattle.consistency.{proofs.{Derived.free-unopened, Equivalence.consistent-iff}, specs.{Consistent.{Consistent, CountsTrue, FilesConsistent, LinksConsistent, NoConflicts, OpensConsistent, StreamsConsistent, openAt}, Relations.live}}
+use Rattle.sharing.{proofs.Check.any-conflict-perm, specs.Sharing.{anyConflict, conflict, onStream, withoutOpen}}
+use Rattle.store.proofs.Sequences.{Completed.{DecisionFits, Unopposed, decide-ends}, Facts.{Joins, NamespaceConsistent, Other, namespace-of}, Opens.{Close.{Struck, handle-is, handle-used, one-handle, others-kept, struck}, Conflicts.share-more, Counts.{counts-joined, counts-left, counts-written}, Join.{conflicts-joined, joined, joined-live, joins-used}, Leave.{conflicts-left, left, left-live}, Names.{changed-names, used-below, with-open-names, without-open-names}, Table.opens-kept}, Views.{Related, closing-alike, decided-alike, room-same}}
+use Rattle.store.specs.{Calls.{Call, closes, modelStep, opens, setsReadOnly, storeStep}, Complete.{Change, Closing, Decision, changed, decide, decideClose, newOpen, nextHandle, noChange, withShareRead}, Model.{Model, modelClose, modelClosed, modelOpen, modelOpened, modelSetReadOnly, modelView, namespaceMarked}, Sequences.{handleOf, isCorrupt}, Store.{changedVolume, closed, hasHandle, opened, recount, storeClose, storeOpen, storeSetReadOnly, storeView, volumeMarked, volumeWithOpen, volumeWithoutOpen, whenConsistent}}
 
 -- a step of the model from m issues the next handle, or none
 abbrev pub Issues : Model → Step Model → Type 0

@@ -1,43 +1,11 @@
 -- Demand 3: every sequence of calls from a freshly formatted volume (store/specs/Sequences.antt has the statement).
-use Prim.Native.Nat.{_<_, suc, zero, ℕ}
-use Rattle.consistency.proofs.Opens.{agree-iff}
-use Rattle.consistency.proofs.Slots.{two-iff}
-use Rattle.consistency.specs.Good.{OpensAgree, handlesDiffer, opensAgree}
-use Rattle.consistency.specs.Relations.{live, validMasks}
-use Rattle.format.proofs.Fresh.{fresh-consistent}
-use Rattle.format.specs.Format.{checkedMasks, format, freshTables, freshVolume, rightLengths}
-use Rattle.lists.proofs.Tests.{and-both, not-is}
-use Rattle.lists.proofs.Permutations.{perm-pairs}
-use Rattle.lists.specs.Lists.{all, any, keep, nil, pairs}
-use Rattle.records.specs.Checked.{_>>_, _>>_, passed, refuseIf}
-use Rattle.records.specs.Numbers.{Reply}
-use Rattle.records.specs.Slots.{openUsed, zeroOpen}
-use Rattle.records.specs.State.{Step, Tables, concluded}
-use Rattle.records.specs.declared.Open.{Open}
-use Rattle.records.specs.declared.Outcome.the-variants.{Done, Refused}
-use Rattle.records.specs.declared.Status.the-variants.{FileCorruptError, InvalidParameter}
-use Rattle.records.specs.declared.Status.{Status}
-use Rattle.records.specs.declared.StreamNo.{StreamNo}
-use Rattle.sharing.proofs.Counts.{counts-perm}
-use Rattle.sharing.proofs.PairRule.{conflicting-sym}
-use Rattle.sharing.specs.Sharing.{countsOf}
-use Rattle.store.proofs.Sequences.Steps.{Issues, together}
-use Rattle.store.proofs.Sequences.Views.{Related}
-use Rattle.store.proofs.Sequences.Violation.{from-check, share-right, violation}
-use Rattle.store.specs.Calls.{Call, Run, modelStep, run, storeStep}
-use Rattle.store.specs.Complete.{nextHandle}
-use Rattle.store.specs.Model.{Model, freshModel, modelFormat}
-use Rattle.store.specs.Sequences.{Agree, EverySequence, handleOf, isCorrupt, issued, numbersFrom}
+use Rattle.base.{specs.Base.{_<_, suc, zero, ℕ, all, any, keep, nil, pairs, _>>_, passed, refuseIf, Reply, openUsed, zeroOpen, Step, Tables, concluded, Open, Done, Refused, FileCorruptError, InvalidParameter, Status, StreamNo, eqb, length, Bool, _||_, false, not, true, List, [], _∷_, inl, inr, _≡_, done}, proofs.Laws.{and-both, not-is, perm-pairs, eq-eqb, eqb-false, eqb-true, ne-eqb, _∙_, ap, ap₂, refl, subst, subst₂, sym, arith}}
+use Rattle.consistency.{proofs.{Opens.agree-iff, Slots.two-iff}, specs.{Good.{OpensAgree, handlesDiffer, opensAgree}, Relations.{live, validMasks}}}
+use Rattle.format.{proofs.Fresh.fresh-consistent, specs.Format.{checkedMasks, format, freshTables, freshVolume, rightLengths}}
+use Rattle.sharing.{proofs.{Counts.counts-perm, PairRule.conflicting-sym}, specs.Sharing.countsOf}
 use Rattle.tables.specs.Tables.{streamAt}
-use borrow.Author.Tests.{eq-eqb, eqb-false, eqb-true, ne-eqb}
-use lib.Dec.{eqb}
-use lib.ListN.{length}
-use mathlib.Core.Bool.{Bool, _||_, false, not, true}
-use mathlib.Core.List.{List, [], _∷_}
-use mathlib.Core.Logic.{inl, inr}
-use mathlib.Core.Path.{_∙_, _≡_, _≡_, ap, ap₂, refl, subst, subst₂, sym}
-use native.Mathlib.Omega.{arith}
-use Rattle.records.specs.State.{done}
+use Rattle.store.proofs.Sequences.{Steps.{Issues, together}, Views.Related, Violation.{from-check, share-right, violation}}
+use Rattle.store.specs.{Calls.{Call, Run, modelStep, run, storeStep}, Complete.nextHandle, Model.{Model, freshModel, modelFormat}, Sequences.{Agree, EverySequence, handleOf, isCorrupt, issued, numbersFrom}}
 
 refused≢done : {s : Status} → Refused s ≡ Done → ⊥
 refused≢done e = let z : _≡_ {A = ℕ} 0 1 = cc in omega arith

@@ -1,46 +1,12 @@
 -- The tables and the model that they are related to answer every question about the opens alike, so that the twelve
 -- steps, and a close, are decided alike.
-use Prim.Native.Nat.{_<_, suc, ℕ}
-use Rattle.consistency.specs.Consistent.{Consistent}
-use Rattle.consistency.specs.Relations.{live}
-use Rattle.lists.proofs.Count.{count-short}
-use Rattle.lists.proofs.Keep.{length-keep}
-use Rattle.lists.proofs.First.{find-keep, perm-find}
-use Rattle.lists.proofs.Permutations.{perm-any, perm-length}
-use Rattle.lists.specs.Lists.{Permutation, any}
+use Rattle.base.{specs.Base.{_<_, suc, ℕ, Permutation, any, Checked, _>>=_, _>>_, passed, refuseIf, refused, someOr, Namespace, namespace, lastHandle, openSlots, openUsed, Tables, Terms, Created, Handle, Open, Request, InsufficientResources, InvalidHandle, SharingViolation, TooManyOpenedFiles, StreamNo, eqb, ltb, length, Bool, not, List, Option, _≡_}, proofs.Laws.{count-short, length-keep, find-keep, perm-find, perm-any, perm-length, Ends, went, _∙_, ap, ap₂, refl, subst, sym}}
+use Rattle.consistency.specs.{Consistent.Consistent, Relations.live}
 use Rattle.open_table.specs.Rows.{anyOnFile}
-use Rattle.records.proofs.Checked.{Ends, went}
-use Rattle.records.specs.Checked.{Checked, _>>=_, _>>=_, _>>_, passed, refuseIf, refused, someOr}
-use Rattle.records.specs.Namespace.{Namespace, namespace}
-use Rattle.records.specs.Sizes.{lastHandle, openSlots}
-use Rattle.records.specs.Slots.{openUsed}
-use Rattle.records.specs.State.{Tables}
-use Rattle.records.specs.Terms.{Terms}
-use Rattle.records.specs.declared.CreateAction.the-variants.{Created}
-use Rattle.records.specs.declared.Handle.{Handle}
-use Rattle.records.specs.declared.Open.{Open}
-use Rattle.records.specs.declared.Request.{Request}
-use Rattle.records.specs.declared.Status.the-variants.{InsufficientResources, InvalidHandle, SharingViolation, TooManyOpenedFiles}
-use Rattle.records.specs.declared.StreamNo.{StreamNo}
-use Rattle.sharing.proofs.Check.{share-check-right}
-use Rattle.sharing.proofs.Counts.{counts-perm}
-use Rattle.sharing.specs.Sharing.{anyConflict, shareCheck}
-use Rattle.store.proofs.Sequences.Facts.{Early, ExistingFits, PendingFits, namespace-of}
-use Rattle.store.proofs.Sequences.Opens.Close.{handle-used, one-handle, struck}
-use Rattle.store.proofs.Sequences.Opens.Names.{used-below}
-use Rattle.store.proofs.Sequences.Prepared.{prepare-ends}
-use Rattle.store.specs.Complete.{View, complete, decide, decideClose, noChange, place, placeExisting, shareOf}
-use Rattle.store.specs.Model.{Model, modelView}
-use Rattle.store.specs.Prepare.{Existing, Pending, creating, existing, prepare}
-use Rattle.store.specs.Store.{hasHandle, storeView}
+use Rattle.sharing.{proofs.{Check.share-check-right, Counts.counts-perm}, specs.Sharing.{anyConflict, shareCheck}}
 use Rattle.tables.specs.Tables.{streamAt}
-use lib.Dec.{eqb, ltb}
-use lib.ListN.{length}
-use mathlib.Core.Bool.{Bool, not, true}
-use mathlib.Core.List.{List, [], _∷_}
-use mathlib.Core.Option.{Option}
-use mathlib.Core.Path.{_∙_, _≡_, ap, ap₂, refl, subst, sym}
-use Rattle.store.specs.Complete.{nextHandle}
+use Rattle.store.proofs.Sequences.{Facts.{Early, ExistingFits, PendingFits, namespace-of}, Opens.{Close.{handle-used, one-handle, struck}, Names.used-below}, Prepared.prepare-ends}
+use Rattle.store.specs.{Complete.{View, complete, decide, decideClose, noChange, place, placeExisting, shareOf, nextHandle}, Model.{Model, modelView}, Prepare.{Existing, Pending, creating, existing, prepare}, Store.{hasHandle, storeView}}
 
 -- tables and a model that hold the same
 pub record Related (t : Tables) (m : Model) : Type 0 where

@@ -1,32 +1,11 @@
 -- SHARING_VIOLATION: it comes from no open that does not reach the sharing check. For one that does, the share check says
 -- what comparing it with each entry on the stream says, and the status comes exactly when one conflicts.
-use Prim.Native.Nat.{ℕ}
+use Rattle.base.{specs.Base.{ℕ, Checked, Refusal, _>>=_, passed, refused, Namespace, namespace, Step, Tables, concluded, Refused, Request, SharingViolation, Status, true, List, _↔_, _≡_}, proofs.Laws.{Ends, bind-of, passed-same, refused-same, stopped, test-refuses, went, _∙_, ap, refl, subst, sym, arith}}
 use Rattle.consistency.specs.Consistent.{Consistent}
-use Rattle.records.proofs.Checked.{Ends, bind-of, passed-same, refused-same, stopped, test-refuses, went}
-use Rattle.records.specs.Checked.{Checked, Refusal, _>>=_, _>>=_, passed, refused}
-use Rattle.records.specs.Namespace.{Namespace, namespace}
-use Rattle.records.specs.State.{Step, Tables, concluded}
-use Rattle.records.specs.declared.Outcome.the-variants.{Refused}
-use Rattle.records.specs.declared.Request.{Request}
-use Rattle.records.specs.declared.Status.the-variants.{SharingViolation}
-use Rattle.records.specs.declared.Status.{Status}
 use Rattle.sharing.specs.Sharing.{anyConflict, shareCheck}
-use Rattle.store.proofs.Sequences.Completed.{DecisionFits, Late, complete-ends, not-sharing}
-use Rattle.store.proofs.Sequences.Facts.{Early, PendingFits, namespace-of}
-use Rattle.store.proofs.Sequences.Opens.Names.{used-below}
-use Rattle.store.proofs.Sequences.Prepared.{prepare-ends, prepared}
-use Rattle.store.proofs.Sequences.Steps.{when-consistent}
-use Rattle.store.proofs.Sequences.Views.{Related, conflicts-agree}
-use Rattle.store.specs.Complete.{Decision, complete, decide}
-use Rattle.store.specs.Model.{Model}
-use Rattle.store.specs.Prepare.{Existing, Pending, existing, prepare}
-use Rattle.store.specs.Store.{opened, storeOpen, storeView}
 use Rattle.tables.specs.Tables.{streamAt}
-use mathlib.Core.Bool.{true}
-use mathlib.Core.List.{List}
-use mathlib.Core.Logic.{_↔_}
-use mathlib.Core.Path.{_∙_, _≡_, _≡_, ap, refl, subst, sym}
-use native.Mathlib.Omega.{arith}
+use Rattle.store.proofs.Sequences.{Completed.{DecisionFits, Late, complete-ends, not-sharing}, Facts.{Early, PendingFits, namespace-of}, Opens.Names.used-below, Prepared.{prepare-ends, prepared}, Steps.when-consistent, Views.{Related, conflicts-agree}}
+use Rattle.store.specs.{Complete.{Decision, complete, decide}, Model.Model, Prepare.{Existing, Pending, existing, prepare}, Store.{opened, storeOpen, storeView}}
 
 -- only a refused decision is answered by a refusal
 refused-by : (t : Tables) (c : Checked Decision) (s : Status)

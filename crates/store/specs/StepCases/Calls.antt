@@ -1,13 +1,6 @@
 -- Close, set_read_only, and format without tables.
-use Prim.Native.Nat.{ℕ}
-use mathlib.Core.Bool.{true, false}
-use mathlib.Core.List.{List, [], _∷_, _++_}
-use lib.ListN.{replicate}
-use Rattle.store.specs.Calls.{Call, setsReadOnly}
-use Rattle.records.specs.Namespace.{BareStream}
-use Rattle.records.specs.declared.Open.{Open}
-use Rattle.store.specs.StepCases.Form.{Case, Start, Made, refuses, accepts, does, refusesFormat, formats, each, ask, close, after, makes, marks, made, stream, entry}
-use Rattle.store.specs.StepCases.Statuses.{INVALID_PARAMETER, INVALID_HANDLE, opened}
+use Rattle.base.specs.Base.{ℕ, true, false, List, [], _∷_, _++_, replicate, BareStream, Open}
+use Rattle.store.specs.{Calls.{Call, setsReadOnly}, StepCases.{Form.{Case, Start, Made, refuses, accepts, does, refusesFormat, formats, each, ask, close, after, makes, marks, made, stream, entry}, Statuses.{INVALID_PARAMETER, INVALID_HANDLE, opened}}}
 
 abbrev pub callCases : List Case
 callCases =

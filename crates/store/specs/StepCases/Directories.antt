@@ -1,9 +1,6 @@
 -- Step 10: a found directory.
-use Prim.Native.Nat.{ℕ}
-use mathlib.Core.List.{List, [], _∷_, _++_}
-use lib.ListN.{replicate}
-use Rattle.store.specs.StepCases.Form.{Case, refuses, accepts, leaves, each, ask, by, attributed, close, from, masked, after, fresh, but, makes, makesDirectory, made, stream, ofDirectory, entry}
-use Rattle.store.specs.StepCases.Statuses.{ACCESS_DENIED, OBJECT_NAME_COLLISION, SHARING_VIOLATION, opened, overwritten}
+use Rattle.base.specs.Base.{List, [], _∷_, _++_, replicate}
+use Rattle.store.specs.StepCases.{Form.{Case, refuses, accepts, leaves, each, ask, by, attributed, close, from, masked, after, fresh, but, makes, makesDirectory, made, stream, ofDirectory, entry}, Statuses.{ACCESS_DENIED, OBJECT_NAME_COLLISION, SHARING_VIOLATION, opened, overwritten}}
 
 abbrev pub directoryCases : List Case
 directoryCases =

@@ -1,30 +1,10 @@
 -- The form of the step cases: one call on the model after a few others, with its reply and everything that the model keeps
 -- afterwards. The model is asked alone: by the theorem about every sequence the object store answers alike. The numbers
 -- are those of document 01, written out, and none of the definitions' constants.
-use Prim.Native.Nat.{ℕ, zero, suc, _-_}
-use Prim.Native.Char.{code}
-use Prim.Native.String.{String, len, charAt}
-use mathlib.Core.Path.{_≡_}
-use mathlib.Core.Bool.{Bool, true, false, cond, _&&_}
-use mathlib.Core.List.{List, [], _∷_, _++_, map}
-use mathlib.Core.Option.{Option, none, some}
-use lib.Bits.{bitAnd}
-use lib.Dec.{eqb}
-use lib.ListN.{length, replicate, set}
-use Rattle.records.specs.Slots.{fileUsed, linkUsed}
+use Rattle.base.specs.Base.{ℕ, zero, suc, _-_, _≡_, Bool, true, false, cond, _&&_, List, [], _∷_, _++_, map, none, some, bitAnd, eqb, length, replicate, set, fileUsed, linkUsed, BareStream, Namespace, bareUsed, FileType, Unused, Data, Directory, File, Link, Open, Request, Reply, seen, Step}
+use Prim.Native.{Char.code, String.{String, len, charAt}}
 use Rattle.tables.specs.Tables.{fileAt}
-use Rattle.records.specs.Namespace.{BareStream, Namespace, bareUsed}
-use Rattle.records.specs.declared.FileType.{FileType}
-use Rattle.records.specs.declared.FileType.the-variants.{Unused, Data, Directory}
-use Rattle.records.specs.declared.File.{File}
-use Rattle.records.specs.declared.Link.{Link}
-use Rattle.records.specs.declared.Open.{Open}
-use Rattle.records.specs.declared.Request.{Request}
-use Rattle.records.specs.Numbers.{Reply, seen}
-use Rattle.records.specs.State.{Step}
-use Rattle.store.specs.Model.{Model, modelFormat}
-use Rattle.store.specs.Calls.{Call, opens, closes, setsReadOnly, modelStep}
-use Rattle.store.specs.Evaluate.{computes, modelRun}
+use Rattle.store.specs.{Model.{Model, modelFormat}, Calls.{Call, opens, closes, setsReadOnly, modelStep}, Evaluate.{computes, modelRun}}
 
 -- a text of ASCII signs as units
 unfoldable pub unitsFrom : String → ℕ → ℕ → List ℕ

@@ -1,11 +1,6 @@
 -- Steps 5 to 8: the read-only volume, path lookup, a missing last name, the type asked for.
-use Prim.Native.Nat.{ℕ}
-use mathlib.Core.List.{List, [], _∷_, _++_}
-use lib.ListN.{replicate}
-use Rattle.records.specs.Namespace.{BareStream}
-use Rattle.records.specs.declared.Open.{Open}
-use Rattle.store.specs.StepCases.Form.{Case, Start, Made, refuses, accepts, each, ask, asks, by, attributed, folding, from, after, fresh, makes, makesDirectory, marks, made, stream, ofDirectory, entry}
-use Rattle.store.specs.StepCases.Statuses.{MEDIA_WRITE_PROTECTED, OBJECT_PATH_NOT_FOUND, OBJECT_NAME_NOT_FOUND, OBJECT_NAME_COLLISION, FILE_IS_A_DIRECTORY, NOT_A_DIRECTORY, opened, created}
+use Rattle.base.specs.Base.{ℕ, List, [], _∷_, _++_, replicate, BareStream, Open}
+use Rattle.store.specs.StepCases.{Form.{Case, Start, Made, refuses, accepts, each, ask, asks, by, attributed, folding, from, after, fresh, makes, makesDirectory, marks, made, stream, ofDirectory, entry}, Statuses.{MEDIA_WRITE_PROTECTED, OBJECT_PATH_NOT_FOUND, OBJECT_NAME_NOT_FOUND, OBJECT_NAME_COLLISION, FILE_IS_A_DIRECTORY, NOT_A_DIRECTORY, opened, created}}
 
 -- step 5: dispositions 0, 2, 4 and 5, on a file, on the root, on a missing name, and before step 6
 abbrev pub readOnlyCases : List Case

@@ -1,14 +1,8 @@
 -- Step 4: paths and names.
-use Prim.Native.Nat.{ℕ}
-use mathlib.Core.Path.{_≡_}
-use mathlib.Core.Bool.{Bool, true, false}
-use mathlib.Core.List.{List, [], _∷_, _++_}
-use lib.ListN.{replicate}
+use Rattle.base.specs.Base.{ℕ, _≡_, Bool, true, false, List, [], _∷_, _++_, replicate, Data}
 use Rattle.names.specs.Names.{validFileName, validStreamName}
 use Rattle.stored_names.specs.StoredNames.{wellStored}
-use Rattle.store.specs.StepCases.Form.{stored, Case, refuses, accepts, each, text, ask, asks, after, fresh, makes, makesDirectory, marks, Made, made, stream, streamOf, ofDirectory, entry}
-use Rattle.store.specs.StepCases.Statuses.{OBJECT_NAME_INVALID, OBJECT_PATH_NOT_FOUND, OBJECT_NAME_NOT_FOUND, FILE_IS_A_DIRECTORY, opened, created}
-use Rattle.records.specs.declared.FileType.the-variants.{Data}
+use Rattle.store.specs.StepCases.{Form.{stored, Case, refuses, accepts, each, text, ask, asks, after, fresh, makes, makesDirectory, marks, made, stream, streamOf, ofDirectory, entry}, Statuses.{OBJECT_NAME_INVALID, OBJECT_PATH_NOT_FOUND, opened, created}}
 
 -- a path that names no file: refused by its name, whatever else
 abbrev pub invalid : List ℕ → Case

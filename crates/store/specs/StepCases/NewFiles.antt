@@ -1,9 +1,6 @@
 -- Step 9: a new file.
-use Prim.Native.Nat.{ℕ}
-use mathlib.Core.List.{List, [], _∷_, _++_}
-use lib.ListN.{replicate}
-use Rattle.store.specs.StepCases.Form.{Case, Start, refuses, accepts, leaves, each, ask, by, attributed, from, masked, after, fresh, but, makes, makesDirectory, marks, made, stream, ofDirectory, entry}
-use Rattle.store.specs.StepCases.Statuses.{INVALID_PARAMETER, ACCESS_DENIED, MEDIA_WRITE_PROTECTED, created}
+use Rattle.base.specs.Base.{ℕ, List, [], _∷_, replicate}
+use Rattle.store.specs.StepCases.{Form.{Case, Start, refuses, accepts, leaves, ask, by, attributed, from, masked, after, fresh, but, makes, makesDirectory, marks, made, stream, ofDirectory, entry}, Statuses.{INVALID_PARAMETER, ACCESS_DENIED, MEDIA_WRITE_PROTECTED, created}}
 
 -- a new file, a new directory: from a start without files, asked with attributes, access and share; its attributes and
 -- granted access

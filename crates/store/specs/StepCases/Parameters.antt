@@ -1,7 +1,6 @@
 -- Steps 1, 2 and 3: the request's numbers.
-use mathlib.Core.List.{List, [], _∷_, _++_}
-use Rattle.store.specs.StepCases.Form.{Case, refuses, accepts, each, ask, by, attributed, from, fresh, made, stream, ofDirectory, entry}
-use Rattle.store.specs.StepCases.Statuses.{INVALID_PARAMETER, ACCESS_DENIED, OBJECT_NAME_INVALID, FILE_IS_A_DIRECTORY, opened, created}
+use Rattle.base.specs.Base.{List, [], _∷_, _++_}
+use Rattle.store.specs.StepCases.{Form.{Case, refuses, accepts, each, ask, by, attributed, from, fresh, made, stream, ofDirectory, entry}, Statuses.{INVALID_PARAMETER, ACCESS_DENIED, OBJECT_NAME_INVALID, FILE_IS_A_DIRECTORY, opened, created}}
 
 -- step 1: each bound at it and past it, each bit outside the masks
 abbrev pub parameterCases : List Case

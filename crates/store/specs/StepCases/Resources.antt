@@ -1,17 +1,7 @@
 -- Step 12: tables, opens and handles that run out. What is kept is given, since it lies far from any short list of calls.
-use Prim.Native.Nat.{ℕ, _-_}
+use Rattle.base.specs.Base.{ℕ, _-_, Bool, true, false, List, [], _∷_, _++_, length, replicate, zeroFile, zeroLink, BareStream, zeroBare, Namespace, Data, Directory, File, Link, Open}
 use Prim.Native.String.{String}
-use mathlib.Core.Bool.{Bool, true, false}
-use mathlib.Core.List.{List, [], _∷_, _++_}
-use lib.ListN.{length, replicate}
-use Rattle.records.specs.Slots.{zeroFile, zeroLink}
-use Rattle.records.specs.Namespace.{BareStream, zeroBare, Namespace}
-use Rattle.records.specs.declared.FileType.the-variants.{Data, Directory}
-use Rattle.records.specs.declared.File.{File}
-use Rattle.records.specs.declared.Link.{Link}
-use Rattle.records.specs.declared.Open.{Open}
-use Rattle.store.specs.StepCases.Form.{Case, Start, refuses, replies, becomes, modelOf, acceptedRow, holding, ask, text, stored, stream, streamOf, ofDirectory, entry}
-use Rattle.store.specs.StepCases.Statuses.{ACCESS_DENIED, MEDIA_WRITE_PROTECTED, SHARING_VIOLATION, DISK_FULL, TOO_MANY_OPENED_FILES, INSUFFICIENT_RESOURCES, opened, created, overwritten}
+use Rattle.store.specs.StepCases.{Form.{Case, Start, refuses, replies, becomes, modelOf, acceptedRow, holding, ask, text, stored, stream, streamOf, ofDirectory, entry}, Statuses.{ACCESS_DENIED, MEDIA_WRITE_PROTECTED, SHARING_VIOLATION, DISK_FULL, TOO_MANY_OPENED_FILES, INSUFFICIENT_RESOURCES, opened, created, overwritten}}
 
 -- so many used slots: the root and other directories, with the mask; the data file `f` is the last file, its link the
 -- first and its stream the last, where there is more than one

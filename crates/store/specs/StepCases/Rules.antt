@@ -1,9 +1,6 @@
 -- The access rule and the sharing rule.
-use Prim.Native.Nat.{ℕ}
-use mathlib.Core.List.{List, [], _∷_, _++_}
-use lib.ListN.{replicate}
-use Rattle.store.specs.StepCases.Form.{Case, refuses, accepts, leaves, each, ask, by, attributed, close, from, masked, after, but, makes, makesDirectory, made, stream, ofDirectory, entry}
-use Rattle.store.specs.StepCases.Statuses.{ACCESS_DENIED, SHARING_VIOLATION, opened}
+use Rattle.base.specs.Base.{ℕ, List, [], _∷_, _++_, replicate}
+use Rattle.store.specs.StepCases.{Form.{Case, refuses, accepts, leaves, each, ask, by, attributed, close, from, masked, after, but, makes, makesDirectory, made, stream, ofDirectory, entry}, Statuses.{ACCESS_DENIED, SHARING_VIOLATION, opened}}
 
 -- an open of the root by the mask, with its granted access
 abbrev pub rootOpened : ℕ → ℕ → ℕ → Case

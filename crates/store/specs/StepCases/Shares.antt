@@ -1,16 +1,7 @@
 -- Share counts, and the share check from them beside the pair rule.
-use Prim.Native.Nat.{ℕ}
-use mathlib.Core.Path.{_≡_}
-use mathlib.Core.Bool.{Bool, cond}
-use mathlib.Core.List.{List, [], _∷_, _++_, map}
-use Rattle.records.specs.Slots.{zeroCounts}
-use Rattle.records.specs.declared.Open.{Open}
-use Rattle.records.specs.declared.ShareCounts.{ShareCounts}
-use Rattle.records.specs.declared.StreamNo.{StreamNo}
-use Rattle.records.specs.Terms.{Terms}
+use Rattle.base.specs.Base.{ℕ, _≡_, cond, List, [], _∷_, zeroCounts, Open, ShareCounts, StreamNo, Terms}
 use Rattle.sharing.specs.Sharing.{anyConflict, countsOf, shareCheck, withOpen, withoutOpen}
-use Rattle.store.specs.Evaluate.{computes}
-use Rattle.store.specs.StepCases.Form.{entry, failing}
+use Rattle.store.specs.{Evaluate.computes, StepCases.Form.{entry, failing}}
 
 -- an open on stream 1 with this access and share; one on another stream
 abbrev pub on : ℕ → ℕ → Open

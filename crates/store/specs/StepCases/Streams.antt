@@ -1,10 +1,6 @@
 -- Step 11: a found data file.
-use Prim.Native.Nat.{ℕ}
-use mathlib.Core.List.{List, [], _∷_, _++_}
-use lib.ListN.{replicate}
-use Rattle.store.specs.StepCases.Form.{Case, Start, refuses, accepts, leaves, each, ask, by, attributed, folding, from, after, but, makes, marks, Made, made, stream, entry}
-use Rattle.store.specs.StepCases.Statuses.{ACCESS_DENIED, MEDIA_WRITE_PROTECTED, OBJECT_NAME_NOT_FOUND, OBJECT_NAME_COLLISION, SHARING_VIOLATION, superseded, opened, created, overwritten}
-use Rattle.store.specs.Calls.{Call}
+use Rattle.base.specs.Base.{ℕ, List, [], _∷_, _++_, replicate}
+use Rattle.store.specs.{StepCases.{Form.{Case, Start, refuses, accepts, leaves, each, ask, by, attributed, folding, from, after, but, makes, marks, made, stream, entry}, Statuses.{ACCESS_DENIED, MEDIA_WRITE_PROTECTED, OBJECT_NAME_NOT_FOUND, OBJECT_NAME_COLLISION, SHARING_VIOLATION, superseded, opened, created, overwritten}}, Calls.Call}
 
 -- `a` with the stream `s`, asked for with attributes; account 0 has every access, account 1 the mask, the others none
 abbrev pub fileAs : ℕ → ℕ → Start

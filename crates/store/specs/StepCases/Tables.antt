@@ -1,24 +1,7 @@
 -- The object store on its tables: consistency first, format, and calls in a row, with every table afterwards.
-use Prim.Native.Nat.{ℕ, _-_}
-use mathlib.Core.Path.{_≡_}
-use mathlib.Core.Bool.{Bool, true, false, cond}
-use mathlib.Core.List.{List, [], _∷_, _++_, map}
-use lib.ListN.{replicate}
-use Rattle.records.specs.Slots.{fileUsed, linkUsed, streamUsed, openUsed, zeroCounts}
-use Rattle.records.specs.Namespace.{BareStream, bare}
-use Rattle.records.specs.declared.FileType.the-variants.{Unused, Directory}
-use Rattle.records.specs.declared.File.{File}
-use Rattle.records.specs.declared.Link.{Link}
-use Rattle.records.specs.declared.Stream.{Stream}
-use Rattle.records.specs.declared.Open.{Open}
+use Rattle.base.specs.Base.{ℕ, _-_, _≡_, Bool, true, false, cond, List, [], _∷_, _++_, map, replicate, fileUsed, linkUsed, streamUsed, openUsed, zeroCounts, BareStream, bare, Unused, Directory, File, Link, Stream, Open, Tables, Step}
 use Rattle.format.specs.Format.{format}
-use Rattle.store.specs.Store.{storeView}
-use Rattle.records.specs.State.{Tables, Step}
-use Rattle.store.specs.Calls.{Call, setsReadOnly, storeStep}
-use Rattle.store.specs.Evaluate.{computes, storeRun}
-use Rattle.store.specs.Cases.{sevenCounts}
-use Rattle.store.specs.StepCases.Form.{ask, attributed, folding, close, rows, fileRow, linkRow, streamRow, entryRow, replyRow, refusedRow, acceptedRow, doneRow, observed, failing, Made, made, filesMade, linksMade, stream, ofDirectory, entry, makesDirectory}
-use Rattle.store.specs.StepCases.Statuses.{FILE_CORRUPT_ERROR, INVALID_PARAMETER, MEDIA_WRITE_PROTECTED, SHARING_VIOLATION, INVALID_HANDLE, superseded, opened, created}
+use Rattle.store.specs.{Store.storeView, Calls.{Call, setsReadOnly, storeStep}, Evaluate.{computes, storeRun}, Cases.sevenCounts, StepCases.{Form.{ask, attributed, folding, close, rows, fileRow, linkRow, streamRow, entryRow, replyRow, refusedRow, acceptedRow, doneRow, observed, failing, Made, made, filesMade, linksMade, stream, ofDirectory, entry, makesDirectory}, Statuses.{FILE_CORRUPT_ERROR, INVALID_PARAMETER, MEDIA_WRITE_PROTECTED, SHARING_VIOLATION, INVALID_HANDLE, superseded, opened, created}}}
 
 -- the tables as rows of numbers: every slot, or the used ones with their numbers
 unfoldable pub countedRow : Stream → List ℕ

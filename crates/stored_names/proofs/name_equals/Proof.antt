@@ -1,14 +1,8 @@
 -- `stored_names::name_equals` meets its contract. The loop's invariant: the answer is that for what is left of both.
-use Prim.Native.Nat.{ℕ, _≤_, _-_}
-use mathlib.Core.Path.{_≡_, sym, ap, _∙_}
-use native.Mathlib.Omega.{arith}
-use lib.Dec.{eqb}
-use lib.ListN.{length, drop}
-use borrow.Author.Needs.{needs}
-use Rattle.stored_names.specs.StoredNames.{units}
+use Rattle.base.{specs.Base.{ℕ, _≤_, _-_, _≡_, eqb, length, drop}, proofs.Laws.{sym, ap, _∙_, arith, needs}}
 use Rattle.units.specs.Units.{folded, equalUnits}
-use Rattle.stored_names.proofs.NameUnits.{name-ends, name-stops, name-next, name-end}
-use Rattle.stored_names.proofs.name_equals.Statement.{statement}
+use Rattle.stored_names.proofs.{NameUnits.{name-ends, name-stops, name-next, name-end}, name_equals.Statement.statement}
+use Rattle.stored_names.specs.StoredNames.{units}
 use Rattle.stored_names.proofs.name_equals.Tie as tie
 
 abbrev Inv-loop : tie.InvT-loop

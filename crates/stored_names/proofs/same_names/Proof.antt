@@ -1,14 +1,7 @@
 -- `stored_names::same_names` meets its contract. The loop's invariant: the answer is that for what is left of both names.
-use Prim.Native.Nat.{_≤_, _-_}
-use mathlib.Core.Path.{_≡_, sym, _∙_}
-use native.Mathlib.Omega.{arith}
-use lib.ListN.{drop, List·getD-eq-default}
-use borrow.Author.Needs.{needs}
-use Rattle.lists.specs.Lists.{same}
-use Rattle.records.specs.Sizes.{fileNameLimit}
+use Rattle.base.{specs.Base.{_≤_, _-_, _≡_, drop, same, fileNameLimit}, proofs.Laws.{sym, _∙_, arith, List·getD-eq-default, needs}}
+use Rattle.stored_names.proofs.{NameUnits.{units-differ, units-both-end, units-same-next}, same_names.Statement.statement}
 use Rattle.stored_names.specs.StoredNames.{units}
-use Rattle.stored_names.proofs.NameUnits.{units-differ, units-both-end, units-same-next}
-use Rattle.stored_names.proofs.same_names.Statement.{statement}
 use Rattle.stored_names.proofs.same_names.Tie as tie
 
 abbrev Inv-loop : tie.InvT-loop

@@ -1,8 +1,5 @@
 -- `stored_names::unit_at` meets its contract: past the last place an element is the default.
-use mathlib.Core.Path.{sym}
-use native.Mathlib.Omega.{arith}
-use lib.ListN.{List·getD-eq-default}
-use borrow.Author.Needs.{needs}
+use Rattle.base.proofs.Laws.{sym, arith, List·getD-eq-default, needs}
 use Rattle.stored_names.proofs.unit_at.Statement.{statement}
 use Rattle.stored_names.proofs.unit_at.Tie as tie
 

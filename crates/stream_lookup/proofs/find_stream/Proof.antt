@@ -1,21 +1,8 @@
 -- `stream_lookup::find_stream` meets its contract. The invariant: the answer is what the rest of the table gives.
-use Prim.Native.Nat.{ℕ, _-_}
-use mathlib.Core.Path.{_≡_, sym, ap, _∙_}
-use mathlib.Core.Bool.{Bool}
-use mathlib.Core.List.{List}
-use mathlib.Core.Option.{Option}
-use native.Mathlib.Omega.{arith}
-use borrow.Author.Needs.{needs}
-use Rattle.lists.specs.Lists.{first}
-use Rattle.lists.proofs.First.{answerFrom, answer-here, answer-next, answer-none, first-map}
-use Rattle.records.specs.Namespace.{namespace, bare}
-use Rattle.records.specs.declared.FileNo.{FileNo}
-use Rattle.records.specs.declared.Stream.{Stream}
+use Rattle.base.{specs.Base.{ℕ, _-_, _≡_, Bool, List, Option, first, namespace, bare, FileNo, Stream}, proofs.Laws.{sym, ap, _∙_, arith, needs, answerFrom, answer-here, answer-next, answer-none, first-map}}
 use Rattle.records.proofs.Lengths.{streams-length}
-use Rattle.stream_lookup.specs.StreamLookup.{streamMatches, streamNumber, findStream}
-use Rattle.stream_lookup.specs.StreamLookup.{foundStream}
-use Rattle.stream_lookup.specs.declared.FoundStream.{FoundStream}
 use Rattle.stream_lookup.proofs.find_stream.Statement.{statement}
+use Rattle.stream_lookup.specs.{StreamLookup.{streamMatches, streamNumber, findStream, foundStream}, declared.FoundStream.FoundStream}
 use Rattle.stream_lookup.proofs.find_stream.Tie as tie
 
 abbrev found : Option ℕ → FoundStream

@@ -1,11 +1,7 @@
 -- `stream_lookup::stream_matches` meets its contract.
-use mathlib.Core.Path.{sym, _∙_}
-use borrow.Author.Needs.{needs}
-use borrow.Author.Tests.{eq-eqb, ne-eqb, not-true, not-false}
-use Rattle.records.specs.Slots.{streamUsed}
-use Rattle.records.specs.Namespace.{bare, bareUsed}
-use Rattle.stream_lookup.specs.StreamLookup.{streamMatches}
+use Rattle.base.{proofs.Laws.{sym, _∙_, needs, eq-eqb, ne-eqb, not-true, not-false}, specs.Base.{streamUsed, bare, bareUsed}}
 use Rattle.stream_lookup.proofs.stream_matches.Statement.{statement}
+use Rattle.stream_lookup.specs.StreamLookup.{streamMatches}
 use Rattle.stream_lookup.proofs.stream_matches.Tie as tie
 
 stream-used-requires : tie.Need-stream-used-requires

@@ -1,13 +1,8 @@
 -- `units::equal_units` meets its contract. The loop's invariant: the lengths are equal, and the answer is that for what
 -- is left of both rows.
-use Prim.Native.Nat.{_≤_, _-_}
-use mathlib.Core.Path.{_≡_, refl, sym, _∙_}
-use native.Mathlib.Omega.{arith}
-use lib.ListN.{length, drop}
-use borrow.Author.Needs.{needs}
+use Rattle.base.{specs.Base.{_≤_, _-_, _≡_, length, drop}, proofs.Laws.{refl, sym, _∙_, arith, needs}}
+use Rattle.units.proofs.{Compare.{equal-next, equal-stops, equal-end, equal-lengths}, equal_units.Statement.statement}
 use Rattle.units.specs.Units.{equalUnits}
-use Rattle.units.proofs.Compare.{equal-next, equal-stops, equal-end, equal-lengths}
-use Rattle.units.proofs.equal_units.Statement.{statement}
 use Rattle.units.proofs.equal_units.Tie as tie
 
 abbrev Inv-loop : tie.InvT-loop

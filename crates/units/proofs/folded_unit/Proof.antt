@@ -1,7 +1,7 @@
 -- `units::folded_unit` meets its contract.
-use borrow.Author.Needs.{needs}
-use Rattle.units.specs.Units.{folded}
+use Rattle.base.proofs.Laws.{needs}
 use Rattle.units.proofs.folded_unit.Statement.{statement}
+use Rattle.units.specs.Units.{folded}
 use Rattle.units.proofs.folded_unit.Tie as tie
 
 upper-unit-requires : tie.Need-upper-unit-requires

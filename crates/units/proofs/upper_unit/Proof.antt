@@ -1,9 +1,7 @@
 -- `units::upper_unit` meets its contract: the two tests of its range are those of `upper`.
-use native.Mathlib.Omega.{arith}
-use borrow.Author.Needs.{needs}
-use borrow.Author.Tests.{le-leb, lt-leb}
-use Rattle.units.specs.Units.{upper}
+use Rattle.base.proofs.Laws.{arith, needs, le-leb, lt-leb}
 use Rattle.units.proofs.upper_unit.Statement.{statement}
+use Rattle.units.specs.Units.{upper}
 use Rattle.units.proofs.upper_unit.Tie as tie
 
 sub-result : tie.Need-sub-result

@@ -1,8 +1,7 @@
 -- `lookup::walk::link_matches` meets its contract.
-use borrow.Author.Needs.{needs}
-use borrow.Author.Tests.{eq-eqb, ne-eqb}
-use Rattle.lookup.specs.Lookup.{linkMatches}
+use Rattle.base.proofs.Laws.{needs, eq-eqb, ne-eqb}
 use Rattle.lookup.proofs.walk.link_matches.Statement.{statement}
+use Rattle.lookup.specs.Lookup.{linkMatches}
 use Rattle.lookup.proofs.walk.link_matches.Tie as tie
 
 returns : tie.Need-returns

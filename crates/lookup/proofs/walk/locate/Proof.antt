@@ -1,11 +1,8 @@
 -- `lookup::walk::locate` meets its contract.
-use borrow.Author.Needs.{needs}
-use Rattle.records.specs.Checked.{_>>=_}
-use Rattle.lists.specs.Lists.{isEmpty}
+use Rattle.base.{proofs.Laws.needs, specs.Base.{_>>=_, isEmpty}}
 use Rattle.paths.specs.Positions.{asPath}
-use Rattle.lookup.specs.Lookup.{locate}
-use Rattle.lookup.specs.Answers.{leafNames, asPlace, locateParsed}
 use Rattle.lookup.proofs.walk.locate.Statement.{statement}
+use Rattle.lookup.specs.{Lookup.locate, Answers.{leafNames, asPlace, locateParsed}}
 use Rattle.lookup.proofs.walk.locate.Tie as tie
 
 enum-told : tie.Need-enum-told

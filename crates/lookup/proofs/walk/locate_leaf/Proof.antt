@@ -1,22 +1,9 @@
 -- `lookup::walk::locate_leaf` meets its contract: each end of the walk, as the place that it leads to.
-use mathlib.Core.Path.{_≡_, sym, ap, subst, _∙_}
-use mathlib.Core.Bool.{Bool, true, false}
-use mathlib.Core.List.{List}
-use Prim.Native.Nat.{ℕ}
-use mathlib.Core.Option.{some}
-use Rattle.lists.specs.Lists.{isEmpty}
-use lib.ListN.{length}
-use Rattle.components.specs.Positions.{partOf}
-use borrow.Author.Needs.{needs}
-use Rattle.records.specs.Namespace.{namespace}
-use Rattle.records.specs.Checked.{passed}
-use Rattle.records.specs.declared.Link.{Link}
+use Rattle.base.{specs.Base.{_≡_, true, false, List, ℕ, some, isEmpty, namespace, passed, Link}, proofs.Laws.{sym, ap, subst, _∙_, needs}}
 use Rattle.components.specs.Positions.{parentsOf}
 use Rattle.paths.specs.Positions.{asLeaf}
-use Rattle.lookup.specs.Lookup.{found, locate}
-use Rattle.lookup.specs.Answers.{pathTo, asPlace}
-use Rattle.lookup.proofs.Walking.{placeFrom, name-empty, name-given, root-leads, walk-leads}
-use Rattle.lookup.proofs.walk.locate_leaf.Statement.{statement}
+use Rattle.lookup.proofs.{Walking.{placeFrom, name-empty, name-given, root-leads, walk-leads}, walk.locate_leaf.Statement.statement}
+use Rattle.lookup.specs.{Lookup.{found, locate}, Answers.{pathTo, asPlace}}
 use Rattle.lookup.proofs.walk.locate_leaf.Tie as tie
 
 leads : (w : tie.After-walk-path)

@@ -1,28 +1,12 @@
 -- `lookup::walk::walk_path` meets its contract. The invariant of the loop over components: the answer is that from the
 -- present directory through what is left of the path. That of each search: what it finds is what the rest of the links
 -- gives.
-use Prim.Native.Nat.{ℕ, _-_}
-use mathlib.Core.Path.{_≡_, refl, sym, ap, subst, subst⁻¹, _∙_}
-use mathlib.Core.List.{List}
-use mathlib.Core.Logic.{⊎-elim}
-use native.Mathlib.Omega.{arith}
-use lib.ListN.{length, drop}
-use borrow.Author.Needs.{needs}
-use borrow.Author.Tests.{not-true, not-false}
-use Rattle.records.specs.Sizes.{fileSlots, linkSlots}
-use Rattle.records.specs.Slots.{root}
-use Rattle.records.specs.Namespace.{namespace}
+use Rattle.base.{specs.Base.{ℕ, _-_, _≡_, List, length, drop, fileSlots, linkSlots, root, namespace}, proofs.Laws.{refl, sym, ap, subst, _∙_, ⊎-elim, arith, needs, not-true, not-false}}
+use mathlib.Core.Path.{subst⁻¹}
+use Rattle.components.{specs.{Components.components, Positions.{partOf, parentsOf, nextComponent}, declared.Part.Part}, proofs.Places.{next-order, next-within}}
 use Rattle.records.proofs.Lengths.{files-length, links-length}
-use Rattle.components.specs.Components.{components}
-use Rattle.components.specs.Positions.{partOf, parentsOf, nextComponent}
-use Rattle.components.specs.declared.Part.{Part}
-use Rattle.components.proofs.Places.{next-order, next-within}
-use Rattle.lookup.specs.Lookup.{findLink}
-use Rattle.lookup.specs.Answers.{lastStep, walkedFrom}
-use Rattle.lookup.specs.declared.walk.FoundFile.the-variants.{Missing}
-use Rattle.lookup.proofs.Searching.{SearchedTo, search-begins, search-here, search-next, search-ends}
-use Rattle.lookup.proofs.Walking.{foundFile, file-read, step-lost, step-found, kind-read, kind-past, walkLeft, walk-ends, walk-stops, walk-goes-on}
-use Rattle.lookup.proofs.walk.walk_path.Statement.{statement}
+use Rattle.lookup.proofs.{Searching.{SearchedTo, search-begins, search-here, search-next, search-ends}, Walking.{foundFile, file-read, step-lost, step-found, kind-read, kind-past, walkLeft, walk-ends, walk-stops, walk-goes-on}, walk.walk_path.Statement.statement}
+use Rattle.lookup.specs.{Lookup.findLink, Answers.{lastStep, walkedFrom}, declared.walk.FoundFile.the-variants.Missing}
 use Rattle.lookup.proofs.walk.walk_path.Tie as tie
 
 abbrev Inv-loop : tie.InvT-loop

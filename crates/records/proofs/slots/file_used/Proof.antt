@@ -1,7 +1,7 @@
 -- `records::slots::file_used` meets its contract: the type says whether the slot is used.
 use borrow.Author.Needs.{needs}
-use Rattle.records.specs.Slots.{fileUsed}
 use Rattle.records.proofs.slots.file_used.Statement.{statement}
+use Rattle.records.specs.Slots.{fileUsed}
 use Rattle.records.proofs.slots.file_used.Tie as tie
 
 is-used-requires : tie.Need-is-used-requires

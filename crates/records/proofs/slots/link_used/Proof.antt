@@ -1,8 +1,8 @@
 -- `records::slots::link_used` meets its contract: the code is the definition.
-use mathlib.Core.Path.{refl}
 use borrow.Author.Needs.{needs}
-use Rattle.records.specs.Slots.{linkUsed}
+use mathlib.Core.Path.{refl}
 use Rattle.records.proofs.slots.link_used.Statement.{statement}
+use Rattle.records.specs.Slots.{linkUsed}
 use Rattle.records.proofs.slots.link_used.Tie as tie
 
 element-copy-out-result : tie.Need-element-copy-out-result

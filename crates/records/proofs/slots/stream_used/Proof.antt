@@ -1,7 +1,7 @@
 -- `records::slots::stream_used` meets its contract: the type says whether the slot is used.
 use borrow.Author.Needs.{needs}
-use Rattle.records.specs.Slots.{streamUsed}
 use Rattle.records.proofs.slots.stream_used.Statement.{statement}
+use Rattle.records.specs.Slots.{streamUsed}
 use Rattle.records.proofs.slots.stream_used.Tie as tie
 
 is-used-requires : tie.Need-is-used-requires

@@ -1,26 +1,9 @@
 -- New attributes of a data file: consistent names stay so.
-use Prim.Native.Nat.{_<_, ℕ}
-use Rattle.consistency.proofs.Derived.{file-good}
-use Rattle.consistency.proofs.Numbered.{file-in, same-file}
-use Rattle.consistency.specs.Good.{GoodAttributes, GoodFile}
-use Rattle.consistency.specs.Relations.{typeAt}
-use Rattle.lists.specs.Lists.{writes}
-use Rattle.records.specs.Namespace.{Namespace}
-use Rattle.records.specs.Slots.{fileUsed, isDirectory, isUsed, root}
-use Rattle.records.specs.declared.File.{File}
-use Rattle.records.specs.declared.FileNo.{FileNo}
-use Rattle.store.proofs.Sequences.Changes.Files.{file-at-new, file-at-other, files-with}
-use Rattle.store.proofs.Sequences.Changes.Types.{SameType, is-data, links-kept, streams-kept}
-use Rattle.store.proofs.Sequences.Facts.{AttributesFit, NamespaceConsistent}
-use Rattle.store.specs.Complete.{attributeChange, changed, withAttributes}
+use Rattle.base.{specs.Base.{_<_, ℕ, writes, Namespace, fileUsed, isDirectory, isUsed, root, File, FileNo, length, set, Bool, true, List, _≢_, some, _≡_}, proofs.Laws.{true≢false, _∙_, ap, refl, subst, sym, ℕ-discrete}}
+use Rattle.consistency.{proofs.{Derived.file-good, Numbered.{file-in, same-file}}, specs.{Good.{GoodAttributes, GoodFile}, Relations.typeAt}}
 use Rattle.tables.specs.Tables.{fileAt}
-use lib.ListN.{length, set}
-use mathlib.Core.Bool.{Bool, true, true≢false}
-use mathlib.Core.List.{List}
-use mathlib.Core.Logic.{_≢_}
-use mathlib.Core.Option.{some}
-use mathlib.Core.Path.{_∙_, _≡_, ap, refl, subst, sym}
-use native.Mathlib.Decide.{ℕ-discrete}
+use Rattle.store.proofs.Sequences.{Changes.{Files.{file-at-new, file-at-other, files-with}, Types.{SameType, is-data, links-kept, streams-kept}}, Facts.{AttributesFit, NamespaceConsistent}}
+use Rattle.store.specs.Complete.{attributeChange, changed, withAttributes}
 
 -- a file written anew with its type
 module _ (fs : List File) (f : FileNo) (file : File) (below : f .0 < length fs) where

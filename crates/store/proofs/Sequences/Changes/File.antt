@@ -1,40 +1,12 @@
 -- A file that a directory gains: its placing leaves consistent names.
-use Prim.Native.Nat.{_≤_, suc}
-use Rattle.consistency.proofs.Numbered.{directory-file}
-use Rattle.consistency.specs.Consistent.{StreamsConsistent}
-use Rattle.consistency.specs.Relations.{typeAt}
-use Rattle.lists.proofs.Tests.{refuted, not-both, not-is}
-use Rattle.lists.proofs.Set.{set-each, FreeSlot, free-stays}
-use Rattle.lists.specs.Lists.{all, isEmpty, writes}
+use Rattle.base.{specs.Base.{_≤_, suc, all, isEmpty, writes, BareStream, Namespace, bareAt, bareUsed, zeroBare, fileNameLimit, streamNameLimit, fileUsed, isDirectory, linkUsed, root, streamUsed, zeroFile, zeroLink, File, FileNo, LinkNo, StreamNo, set, false, true, List, [], _∷_, _≢_, _≡_}, proofs.Laws.{refuted, not-both, not-is, set-each, FreeSlot, free-stays, Ends, ends-bind, ends-cond, goes, ne-eqb, _∙_, ap, refl, sym, arith}}
+use Rattle.consistency.{proofs.Numbered.directory-file, specs.{Consistent.StreamsConsistent, Relations.typeAt}}
 use Rattle.names.specs.Names.{validFileName}
 use Rattle.paths.specs.Paths.{Leaf}
-use Rattle.records.proofs.Checked.{Ends, ends-bind, ends-cond, goes}
-use Rattle.records.specs.Namespace.{BareStream, Namespace, bareAt, bareUsed, zeroBare}
-use Rattle.records.specs.Sizes.{fileNameLimit, streamNameLimit}
-use Rattle.records.specs.Slots.{fileUsed, isDirectory, linkUsed, root, streamUsed, zeroFile, zeroLink}
-use Rattle.records.specs.declared.File.{File}
-use Rattle.records.specs.declared.FileNo.{FileNo}
-use Rattle.records.specs.declared.LinkNo.{LinkNo}
-use Rattle.records.specs.declared.StreamNo.{StreamNo}
-use Rattle.stored_names.proofs.Padded.{file-name-units, padded-begins, padded-stored, units-padded}
-use Rattle.stored_names.specs.StoredNames.{units}
-use Rattle.store.proofs.Sequences.Changes.Files.{FileAdded, file-at-new, file-at-other, files-with, not-added, used-kept}
-use Rattle.store.proofs.Sequences.Changes.Free.{file-free, link-free, stream-free}
-use Rattle.store.proofs.Sequences.Changes.Links.{LinkSound, links-with}
-use Rattle.store.proofs.Sequences.Changes.NewStream.{StreamMade, named-sound, no-stream, unnamed-sound}
-use Rattle.store.proofs.Sequences.Changes.Relations.{link-name-new}
-use Rattle.store.proofs.Sequences.Changes.Streams.{kept-both, stream-kept, stream-there, streams-with}
-use Rattle.store.proofs.Sequences.Facts.{Early, FileFits, NamespaceConsistent, PlacedWell, StreamsKept}
-use Rattle.store.specs.Complete.{changed, linkNew, place, placeFile, placeStreams, streamNew}
-use Rattle.store.specs.Prepare.{newFile}
+use Rattle.stored_names.{proofs.Padded.{file-name-units, padded-begins, padded-stored, units-padded}, specs.StoredNames.units}
 use Rattle.tables.specs.Tables.{fileAt}
-use borrow.Author.Tests.{ne-eqb}
-use lib.ListN.{set}
-use mathlib.Core.Bool.{false, true}
-use mathlib.Core.List.{List, [], _∷_}
-use mathlib.Core.Logic.{_≢_}
-use mathlib.Core.Path.{_∙_, _≡_, ap, refl, sym}
-use native.Mathlib.Omega.{arith}
+use Rattle.store.proofs.Sequences.{Changes.{Files.{FileAdded, file-at-new, file-at-other, files-with, not-added, used-kept}, Free.{file-free, link-free, stream-free}, Links.{LinkSound, links-with}, NewStream.{StreamMade, named-sound, no-stream, unnamed-sound}, Relations.link-name-new, Streams.{kept-both, stream-kept, stream-there, streams-with}}, Facts.{Early, FileFits, NamespaceConsistent, PlacedWell, StreamsKept}}
+use Rattle.store.specs.{Complete.{changed, linkNew, place, placeFile, placeStreams, streamNew}, Prepare.newFile}
 
 -- the files with one more
 abbrev grown : Namespace → FileNo → File → List File

@@ -1,20 +1,8 @@
 -- A file written at a number other than the root's: the files stay consistent. And files with one added.
-use Prim.Native.Nat.{_<_}
-use mathlib.Core.Path.{_≡_, sym, _∙_, ap}
-use mathlib.Core.Bool.{true, false}
-use mathlib.Core.List.{List}
-use mathlib.Core.Logic.{_≢_}
-use lib.ListN.{length, set}
-use lib.Seq.{getD-set-same, getD-set-other}
-use Rattle.lists.proofs.Tests.{not-both}
-use Rattle.records.specs.Slots.{root, zeroFile, isDirectory, fileUsed}
+use Rattle.base.{specs.Base.{_<_, _≡_, true, false, List, _≢_, length, set, root, zeroFile, isDirectory, fileUsed, FileNo, File}, proofs.Laws.{sym, _∙_, ap, getD-set-same, not-both}}
+use lib.Seq.{getD-set-other}
+use Rattle.consistency.{specs.{Good.GoodFile, Consistent.FilesConsistent}, proofs.{Slots.slots-set, Numbered.same-file}}
 use Rattle.tables.specs.Tables.{fileAt}
-use Rattle.records.specs.declared.FileNo.{FileNo}
-use Rattle.records.specs.declared.File.{File}
-use Rattle.consistency.specs.Good.{GoodFile}
-use Rattle.consistency.specs.Consistent.{FilesConsistent}
-use Rattle.consistency.proofs.Slots.{slots-set}
-use Rattle.consistency.proofs.Numbered.{same-file}
 
 module _ (fs : List File) (n : FileNo) (file : File) (below : n .0 < length fs) where
   pub file-at-new : fileAt (set fs (n .0) file) n ≡ file

@@ -1,24 +1,7 @@
 -- The slots that step 12 takes: each is free, and not below the number that the search starts from.
-use Prim.Native.Nat.{ℕ, _≤_}
-use mathlib.Core.Path.{_≡_, refl, sym, _∙_, ap, subst}
-use mathlib.Core.Bool.{Bool, not}
-use mathlib.Core.List.{List}
-use mathlib.Core.Option.{Option, none, some}
-use borrow.Author.Tests.{not-true}
-use Rattle.lists.specs.Lists.{firstAfter}
-use Rattle.lists.proofs.First.{after-found}
-use Rattle.lists.proofs.Set.{FreeSlot}
-use Rattle.records.specs.Slots.{zeroFile, zeroLink, fileUsed, linkUsed}
-use Rattle.records.specs.Namespace.{Namespace, zeroBare, bareUsed}
-use Rattle.records.specs.Checked.{passed, _>>=_, someOr}
-use Rattle.records.proofs.Checked.{refused≢passed, passed-same, bind-passed, Ends, ends-bind, ends-some, goes}
-use Rattle.records.specs.declared.FileNo.{FileNo}
-use Rattle.records.specs.declared.LinkNo.{LinkNo}
-use Rattle.records.specs.declared.StreamNo.{StreamNo}
-use Rattle.store.specs.Complete.{freeFile, freeLink, freeStream}
-use Rattle.records.specs.Numbers.{statusNumber}
+use Rattle.base.{specs.Base.{ℕ, _≤_, _≡_, Bool, not, List, firstAfter, zeroFile, zeroLink, fileUsed, linkUsed, Namespace, zeroBare, bareUsed, passed, _>>=_, someOr, FileNo, LinkNo, StreamNo, statusNumber, DiskFull}, proofs.Laws.{refl, sym, subst, not-true, after-found, FreeSlot, Ends, ends-bind, ends-some, goes}}
 use Rattle.store.proofs.Sequences.Facts.{Early}
-use Rattle.records.specs.declared.Status.the-variants.{DiskFull}
+use Rattle.store.specs.Complete.{freeFile, freeLink, freeStream}
 
 module _ {A N : Type 0} (used : A → Bool) (d : A) (make : ℕ → N) (number : N → ℕ) (made : (n : ℕ) → number (make n) ≡ n) where
   slot-taken : (xs : List A) (from : ℕ)

@@ -1,33 +1,8 @@
 -- A link to a new file, written at a free number: the links stay consistent.
-use Prim.Native.Nat.{ℕ, suc, _+_}
-use mathlib.Core.Path.{_≡_, sym, _∙_, ap, subst}
-use mathlib.Core.Bool.{true, false}
-use mathlib.Core.List.{List}
-use mathlib.Core.Logic.{_≢_, ⊎-elim}
-use native.Mathlib.Decide.{ℕ-discrete}
-use native.Mathlib.Omega.{arith}
-use lib.ListN.{getD, set}
-use Rattle.lists.specs.Lists.{count}
-use Rattle.lists.proofs.Tests.{not-both, one, refuted}
-use Rattle.lists.proofs.Count.{count-none}
-use Rattle.lists.proofs.Set.{set-cases, FreeSlot, count-gained, one-before, one-added}
-use Rattle.records.specs.Slots.{root, zeroLink, fileUsed, linkUsed}
+use Rattle.base.{specs.Base.{ℕ, suc, _+_, _≡_, true, false, List, _≢_, getD, set, count, root, zeroLink, fileUsed, linkUsed, FileType, FileNo, LinkNo, File, Link}, proofs.Laws.{sym, _∙_, ap, subst, ⊎-elim, ℕ-discrete, arith, not-both, one, refuted, count-none, set-cases, FreeSlot, count-gained, one-before, one-added}}
+use Rattle.consistency.{specs.{Relations.{typeAt, linkTo, parentOf, climb}, Good.{GoodLink, LinkNamesDiffer}, Consistent.LinksConsistent}, proofs.{Slots.{slots-good, slots-set, two-set}, Numbered.{same-file, directory-file}, Relations.link-to-iff, Parents.{parent-link, parent-none, parent-used}}}
 use Rattle.tables.specs.Tables.{fileAt, linkAt}
-use Rattle.records.specs.declared.FileType.{FileType}
-use Rattle.records.specs.declared.FileNo.{FileNo}
-use Rattle.records.specs.declared.LinkNo.{LinkNo}
-use Rattle.records.specs.declared.File.{File}
-use Rattle.records.specs.declared.Link.{Link}
-use Rattle.consistency.specs.Relations.{typeAt, linkTo, parentOf, climb}
-use Rattle.consistency.specs.Good.{GoodLink, LinkNamesDiffer}
-use Rattle.consistency.specs.Consistent.{LinksConsistent}
-use Rattle.consistency.proofs.Slots.{slots-good, slots-set, two-set}
-use Rattle.consistency.proofs.Numbered.{same-file, directory-file}
-use Rattle.consistency.proofs.Relations.{link-to-iff}
-use Rattle.consistency.proofs.Parents.{parent-link, parent-none, parent-used}
-use Rattle.store.proofs.Sequences.Changes.Types.{SameType, link-still}
-use Rattle.store.proofs.Sequences.Changes.Files.{FileAdded, not-added, used-kept, used-before}
-use Rattle.store.proofs.Sequences.Changes.Parents.{parent-set, climb-same}
+use Rattle.store.proofs.Sequences.Changes.{Types.{SameType, link-still}, Files.{FileAdded, not-added, used-kept, used-before}, Parents.{parent-set, climb-same}}
 
 -- a link that the files and links may gain
 pub record LinkSound (fs gs : List File) (ls : List Link) (k : Link) : Type 0 where

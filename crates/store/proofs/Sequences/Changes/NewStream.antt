@@ -1,33 +1,11 @@
 -- The streams that step 12 makes: a named one of a data file, and the unnamed one of a new file.
-use Prim.Native.Nat.{ℕ, _+_}
-use mathlib.Core.Path.{_≡_, refl, sym, _∙_, ap}
-use mathlib.Core.Bool.{Bool, true, false}
-use mathlib.Core.List.{List, []}
-use mathlib.Core.Logic.{_≢_}
-use native.Mathlib.Decide.{ℕ-discrete}
-use Rattle.lists.specs.Lists.{all, count, isEmpty, padded}
-use Rattle.lists.proofs.Tests.{not-both, one, refuted}
-use Rattle.lists.proofs.Count.{count-none}
-use Rattle.lists.proofs.Set.{one-before, one-added}
-use Rattle.records.specs.Sizes.{streamNameLimit}
-use Rattle.records.specs.Slots.{isUsed, isDirectory, fileUsed}
-use Rattle.tables.specs.Tables.{fileAt}
-use Rattle.records.specs.Namespace.{BareStream, zeroBare, bareUsed, bareAt}
-use Rattle.records.specs.declared.FileType.{FileType}
-use Rattle.records.specs.declared.FileNo.{FileNo}
-use Rattle.records.specs.declared.StreamNo.{StreamNo}
-use Rattle.records.specs.declared.File.{File}
+use Rattle.base.{specs.Base.{ℕ, _+_, _≡_, Bool, true, false, List, [], _≢_, all, count, isEmpty, padded, streamNameLimit, isUsed, isDirectory, fileUsed, BareStream, zeroBare, bareUsed, bareAt, FileType, FileNo, StreamNo, File}, proofs.Laws.{refl, sym, _∙_, ap, ℕ-discrete, not-both, one, refuted, count-none, one-before, one-added}}
+use Rattle.consistency.{specs.{Relations.{typeAt, streamOf, unnamedOf}, Consistent.StreamsConsistent}, proofs.{Numbered.same-file, Relations.{stream-of-iff, unnamed-iff}, Derived.stream-good}}
 use Rattle.names.specs.Names.{validStreamName}
-use Rattle.stored_names.specs.StoredNames.{units}
-use Rattle.stored_names.proofs.Padded.{stream-name-units, units-padded, padded-stored}
-use Rattle.consistency.specs.Relations.{typeAt, streamOf, unnamedOf}
-use Rattle.consistency.specs.Consistent.{StreamsConsistent}
-use Rattle.consistency.proofs.Numbered.{same-file}
-use Rattle.consistency.proofs.Relations.{stream-of-iff, unnamed-iff}
-use Rattle.consistency.proofs.Derived.{stream-good}
+use Rattle.stored_names.{specs.StoredNames.units, proofs.Padded.{stream-name-units, units-padded, padded-stored}}
+use Rattle.tables.specs.Tables.{fileAt}
+use Rattle.store.proofs.Sequences.Changes.{Files.{FileAdded, not-added, used-before}, Streams.StreamSound}
 use Rattle.store.specs.Complete.{streamNew}
-use Rattle.store.proofs.Sequences.Changes.Files.{FileAdded, not-added, used-before}
-use Rattle.store.proofs.Sequences.Changes.Streams.{StreamSound}
 
 -- what a stream made for a file asks beside the counts
 pub record StreamMade (fs : List File) (ss : List BareStream) (f : FileNo) (type : FileType) (name : List ℕ) : Type 0 where

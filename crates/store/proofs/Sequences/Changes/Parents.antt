@@ -1,12 +1,5 @@
 -- The way up from a file: a link to another file does not change it.
-use Prim.Native.Nat.{ℕ, zero, suc}
-use mathlib.Core.Path.{_≡_, refl, _∙_, ap}
-use mathlib.Core.Bool.{Bool, true, false}
-use mathlib.Core.List.{List, [], _∷_}
-use lib.ListN.{getD, set}
-use Rattle.records.specs.Slots.{zeroLink}
-use Rattle.records.specs.declared.FileNo.{FileNo}
-use Rattle.records.specs.declared.Link.{Link}
+use Rattle.base.{specs.Base.{ℕ, zero, suc, _≡_, Bool, true, false, List, [], _∷_, getD, set, zeroLink, FileNo, Link}, proofs.Laws.{refl, _∙_, ap}}
 use Rattle.consistency.specs.Relations.{linkTo, parentOf, climb}
 
 -- a place that has no link to the file gets another record that is none

@@ -1,13 +1,7 @@
 -- Whatever an open creates, its placing leaves consistent names.
-use mathlib.Core.Path.{_≡_}
-use Rattle.records.specs.Namespace.{Namespace}
-use Rattle.records.specs.Checked.{passed}
-use Rattle.store.specs.Prepare.{Creation, newStream, newFile}
-use Rattle.store.specs.Complete.{Placed, place}
-use Rattle.store.proofs.Sequences.Facts.{NamespaceConsistent, CreationFits, PlacedWell, Early}
-use Rattle.store.proofs.Sequences.Changes.Stream.{stream-placed}
-use Rattle.store.proofs.Sequences.Changes.File.{file-placed}
-use Rattle.records.proofs.Checked.{Ends}
+use Rattle.base.{specs.Base.Namespace, proofs.Laws.Ends}
+use Rattle.store.proofs.Sequences.{Facts.{NamespaceConsistent, CreationFits, PlacedWell, Early}, Changes.{Stream.stream-placed, File.file-placed}}
+use Rattle.store.specs.{Prepare.{Creation, newStream, newFile}, Complete.place}
 
 pub placed-well : (ns : Namespace) → NamespaceConsistent ns → (c : Creation) → CreationFits ns c
     → Ends Early (PlacedWell ns) (place ns c)

@@ -1,26 +1,11 @@
 -- A name that nothing matches is new.
-use Prim.Native.Nat.{ℕ}
-use mathlib.Core.Path.{_≡_, ap}
-use mathlib.Core.Bool.{Bool, true, false}
-use mathlib.Core.List.{List}
-use mathlib.Core.Logic.{_≢_}
-use borrow.Author.Tests.{eq-eqb}
-use Rattle.lists.specs.Lists.{any}
-use Rattle.lists.proofs.Tests.{not-both, and-both}
-use Rattle.lists.proofs.Any.{any-fails}
-use Rattle.records.specs.Slots.{zeroLink, linkUsed}
-use Rattle.tables.specs.Tables.{linkAt}
-use Rattle.records.specs.Namespace.{BareStream, zeroBare, bareUsed, bareAt}
-use Rattle.records.specs.declared.FileNo.{FileNo}
-use Rattle.records.specs.declared.LinkNo.{LinkNo}
-use Rattle.records.specs.declared.StreamNo.{StreamNo}
-use Rattle.records.specs.declared.Link.{Link}
-use Rattle.stored_names.specs.StoredNames.{units}
-use Rattle.units.proofs.Compare.{equal-matches}
+use Rattle.base.{specs.Base.{ℕ, _≡_, Bool, true, false, List, _≢_, any, zeroLink, linkUsed, BareStream, zeroBare, bareUsed, bareAt, FileNo, LinkNo, StreamNo, Link}, proofs.Laws.{ap, eq-eqb, not-both, and-both, any-fails}}
+use Rattle.consistency.proofs.{Links.link-in, Streams.stream-in}
 use Rattle.lookup.specs.Lookup.{linkMatches}
+use Rattle.stored_names.specs.StoredNames.{units}
 use Rattle.stream_lookup.specs.StreamLookup.{streamMatches}
-use Rattle.consistency.proofs.Links.{link-in}
-use Rattle.consistency.proofs.Streams.{stream-in}
+use Rattle.tables.specs.Tables.{linkAt}
+use Rattle.units.proofs.Compare.{equal-matches}
 
 -- where nothing matches a name, folded or not, no used record has it
 module _ (fold : Bool) (f : FileNo) (name : List ℕ) where

@@ -1,36 +1,9 @@
 -- A stream that a data file gains: its placing leaves consistent names.
-use Prim.Native.Nat.{ℕ}
-use mathlib.Core.Path.{_≡_, refl, sym, _∙_, ap, subst}
-use mathlib.Core.Bool.{true, false}
-use mathlib.Core.List.{List, [], _∷_}
-use native.Mathlib.Omega.{arith}
-use lib.ListN.{set}
-use Rattle.lists.specs.Lists.{isEmpty, writes}
-use Rattle.lists.proofs.Tests.{refuted}
-use Rattle.lists.proofs.Same.{empty-is}
-use Rattle.lists.proofs.Count.{count-none}
-use Rattle.lists.proofs.Set.{FreeSlot}
-use Rattle.records.specs.Slots.{isUsed, isDirectory, fileUsed}
+use Rattle.base.{specs.Base.{ℕ, _≡_, true, false, List, [], _∷_, set, isEmpty, writes, isUsed, isDirectory, fileUsed, Namespace, BareStream, zeroBare, bareUsed, bareAt, Data, FileNo, StreamNo, File}, proofs.Laws.{refl, sym, _∙_, ap, arith, refuted, empty-is, count-none, FreeSlot, Ends, ends-bind, goes}}
+use Rattle.consistency.{specs.Relations.unnamedOf, proofs.{Numbered.file-in, Relations.{stream-of-iff, unnamed-iff}}}
 use Rattle.tables.specs.Tables.{fileAt}
-use Rattle.records.specs.Namespace.{Namespace, BareStream, zeroBare, bareUsed, bareAt}
-use Rattle.records.specs.Checked.{passed}
-use Rattle.records.proofs.Checked.{passed-same, bind-passed, Ends, ends-bind, goes}
-use Rattle.records.specs.declared.FileType.the-variants.{Data}
-use Rattle.records.specs.declared.FileNo.{FileNo}
-use Rattle.records.specs.declared.StreamNo.{StreamNo}
-use Rattle.records.specs.declared.File.{File}
-use Rattle.consistency.specs.Relations.{unnamedOf}
-use Rattle.consistency.proofs.Numbered.{file-in}
-use Rattle.consistency.proofs.Relations.{stream-of-iff, unnamed-iff}
-use Rattle.store.specs.Prepare.{newStream}
-use Rattle.store.specs.Complete.{Placed, changed, attributeChange, withAttributes, streamNew, freeStream, place}
-use Rattle.store.proofs.Sequences.Facts.{NamespaceConsistent, StreamFits, PlacedWell, Early}
-use Rattle.store.proofs.Sequences.Changes.Types.{is-data}
-use Rattle.store.proofs.Sequences.Changes.Attributes.{attributes-kept, same-types}
-use Rattle.store.proofs.Sequences.Changes.Free.{stream-free}
-use Rattle.store.proofs.Sequences.Changes.Relations.{stream-name-new}
-use Rattle.store.proofs.Sequences.Changes.Streams.{streams-with, stream-kept, stream-there}
-use Rattle.store.proofs.Sequences.Changes.NewStream.{StreamMade, made-used, named-sound}
+use Rattle.store.proofs.Sequences.{Facts.{NamespaceConsistent, StreamFits, PlacedWell, Early}, Changes.{Types.is-data, Attributes.{attributes-kept, same-types}, Free.stream-free, Relations.stream-name-new, Streams.{streams-with, stream-kept, stream-there}, NewStream.{StreamMade, made-used, named-sound}}}
+use Rattle.store.specs.{Prepare.newStream, Complete.{changed, attributeChange, withAttributes, streamNew, place}}
 
 module _ (ns : Namespace) (f : FileNo) (a : ℕ) (name : List ℕ) (h : NamespaceConsistent ns) (fit : StreamFits ns f a name) where
   is-used : fileUsed (fileAt (ns .files) f) ≡ true

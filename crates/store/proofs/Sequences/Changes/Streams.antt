@@ -1,27 +1,10 @@
 -- A stream written at a free number: when the streams stay consistent, also over files that have grown.
-use Prim.Native.Nat.{_+_}
-use mathlib.Core.Path.{_≡_, sym, _∙_, ap}
-use mathlib.Core.Bool.{Bool, true, false, _&&_}
-use mathlib.Core.List.{List}
-use lib.Dec.{eqb}
-use lib.ListN.{set, length-set}
-use lib.Seq.{getD-set-same}
-use Rattle.lists.specs.Lists.{count, isEmpty}
-use Rattle.lists.proofs.Tests.{not-both, one}
-use Rattle.lists.proofs.Set.{FreeSlot, used-stays, count-gained}
-use Rattle.records.specs.Slots.{isDirectory, fileUsed}
-use Rattle.tables.specs.Tables.{fileAt}
-use Rattle.records.specs.Namespace.{BareStream, zeroBare, bareUsed, bareAt}
-use Rattle.records.specs.declared.FileNo.{FileNo}
-use Rattle.records.specs.declared.StreamNo.{StreamNo}
-use Rattle.records.specs.declared.File.{File}
+use Rattle.base.{specs.Base.{_+_, _≡_, Bool, true, false, _&&_, List, eqb, set, count, isEmpty, isDirectory, fileUsed, BareStream, zeroBare, bareUsed, bareAt, FileNo, StreamNo, File}, proofs.Laws.{sym, _∙_, ap, length-set, getD-set-same, not-both, one, FreeSlot, count-gained}}
+use Rattle.consistency.{specs.{Good.StreamNamesDiffer, Relations.{typeAt, streamOf, unnamedOf}, Consistent.{GoodStreamOf, StreamsConsistent}}, proofs.Slots.{slots-good, slots-set, two-set}}
+use Rattle.lists.proofs.Set.{used-stays}
 use Rattle.stored_names.specs.StoredNames.{units}
-use Rattle.consistency.specs.Good.{StreamNamesDiffer}
-use Rattle.consistency.specs.Relations.{typeAt, streamOf, unnamedOf}
-use Rattle.consistency.specs.Consistent.{GoodStreamOf, StreamsConsistent}
-use Rattle.consistency.proofs.Slots.{slots-good, slots-set, two-set}
-use Rattle.store.proofs.Sequences.Facts.{StreamsKept}
-use Rattle.store.proofs.Sequences.Changes.Types.{SameType, stream-still}
+use Rattle.tables.specs.Tables.{fileAt}
+use Rattle.store.proofs.Sequences.{Facts.StreamsKept, Changes.Types.{SameType, stream-still}}
 
 -- a stream that the files and streams may gain
 pub record StreamSound (fs : List File) (ss : List BareStream) (b : BareStream) : Type 0 where

@@ -1,20 +1,7 @@
 -- Files that agree in type: links and streams ask a file for its type alone.
-use mathlib.Core.Path.{_≡_, refl, sym, _∙_, ap, subst, subst₂}
-use mathlib.Core.Bool.{true, false≢true}
-use mathlib.Core.List.{List}
-use Rattle.records.specs.Slots.{isUsed, isData, isDirectory, fileUsed, linkUsed}
+use Rattle.base.{specs.Base.{_≡_, true, List, isUsed, isData, isDirectory, fileUsed, linkUsed, BareStream, bareUsed, FileType, Unused, Data, Directory, FileNo, File, Link}, proofs.Laws.{refl, sym, _∙_, ap, subst, subst₂, false≢true}}
+use Rattle.consistency.{specs.{Relations.typeAt, Good.{GoodLink, GoodStream}, Consistent.{GoodLinkOf, LinksConsistent, GoodStreamOf, StreamsConsistent}}, proofs.{Slots.slots-good, Numbered.directory-used}}
 use Rattle.tables.specs.Tables.{fileAt}
-use Rattle.records.specs.Namespace.{BareStream, bareUsed}
-use Rattle.records.specs.declared.FileType.{FileType}
-use Rattle.records.specs.declared.FileType.the-variants.{Unused, Data, Directory}
-use Rattle.records.specs.declared.FileNo.{FileNo}
-use Rattle.records.specs.declared.File.{File}
-use Rattle.records.specs.declared.Link.{Link}
-use Rattle.consistency.specs.Relations.{typeAt}
-use Rattle.consistency.specs.Good.{GoodLink, GoodStream}
-use Rattle.consistency.specs.Consistent.{GoodLinkOf, LinksConsistent, GoodStreamOf, StreamsConsistent}
-use Rattle.consistency.proofs.Slots.{slots-good}
-use Rattle.consistency.proofs.Numbered.{directory-used}
 
 pub is-data : (t : FileType) → isData t ≡ true → t ≡ Data
 unfolding isData

@@ -1,28 +1,7 @@
 -- A handle among the opens: the one that has it, and the opens that are left when that one goes.
-use Prim.Native.Nat.{_<_, ℕ}
-use Rattle.consistency.proofs.Numbered.{same-handle}
-use Rattle.consistency.specs.Consistent.{OpensConsistent, openAt}
-use Rattle.consistency.specs.Relations.{live}
-use Rattle.lists.proofs.Tests.{refuted, excluded, and-left, and-right, not-is, not-isn't}
-use Rattle.lists.proofs.All.{all-at}
-use Rattle.lists.proofs.Any.{none-of}
-use Rattle.lists.proofs.Keep.{keep-no, keep-others}
-use Rattle.lists.proofs.Pairs.{pairs-keep-of}
-use Rattle.lists.proofs.First.{first-found, apart, find-found}
-use Rattle.lists.proofs.Permutations.{perm-eq, perm-keep, perm-sym}
-use Rattle.lists.specs.Lists.{Permutation, all, any, both, find, first, keep, pairs}
-use Rattle.records.specs.Namespace.{BareStream}
-use Rattle.records.specs.Slots.{openUsed, zeroOpen}
-use Rattle.records.specs.declared.Handle.{Handle}
-use Rattle.records.specs.declared.Open.{Open}
+use Rattle.base.{specs.Base.{_<_, ℕ, Permutation, all, any, both, find, first, keep, pairs, BareStream, openUsed, zeroOpen, Handle, Open, eqb, length, set, false, not, true, List, _∷_, Option, some, _≡_}, proofs.Laws.{refuted, excluded, and-left, and-right, not-is, not-isn't, all-at, none-of, keep-no, keep-others, pairs-keep-of, first-found, apart, find-found, perm-eq, perm-keep, perm-sym, eqb-true, _∙_, ap, subst, sym}}
+use Rattle.consistency.{proofs.Numbered.same-handle, specs.{Consistent.{OpensConsistent, openAt}, Relations.live}}
 use Rattle.store.specs.Store.{hasHandle, rowsWithoutOpen, stored}
-use borrow.Author.Tests.{eqb-true}
-use lib.Dec.{eqb}
-use lib.ListN.{length, set}
-use mathlib.Core.Bool.{false, not, true}
-use mathlib.Core.List.{List, _∷_}
-use mathlib.Core.Option.{Option, some}
-use mathlib.Core.Path.{_∙_, _≡_, ap, subst, sym}
 
 pub handle-used : (h : Handle) (o : Open) → hasHandle h o ≡ true → openUsed o ≡ true
 unfolding hasHandle

@@ -1,25 +1,7 @@
 -- When no open of a list conflicts: sharing more makes no conflict, and a file without opens has none.
-use Prim.Native.Nat.{ℕ, _<_}
-use mathlib.Core.Path.{_≡_, refl, _∙_, ap, ap₂}
-use mathlib.Core.Bool.{Bool, true, false, not, _&&_, _||_, true≢false}
-use mathlib.Core.List.{List}
-use lib.Bits.{bitOr}
-use lib.Dec.{eqb}
-use lib.ListN.{length, getD}
-use borrow.Author.Tests.{eq-eqb, ne-eqb}
+use Rattle.base.{specs.Base.{ℕ, _≡_, Bool, true, false, not, _&&_, _||_, List, bitOr, StreamNo, Open, Terms, termsOf}, proofs.Laws.{refl, ap₂, true≢false, or-neither, none-too}}
 use Rattle.bits.proofs.Sets.{has-or}
-use Rattle.lists.specs.Lists.{any}
-use Rattle.lists.proofs.Tests.{not-both, or-neither}
-use Rattle.lists.proofs.Any.{any-of, none-too, none-of}
-use Rattle.records.specs.Slots.{zeroOpen, openUsed}
-use Rattle.records.specs.Namespace.{BareStream, zeroBare, bareAt}
-use Rattle.records.specs.declared.FileNo.{FileNo}
-use Rattle.records.specs.declared.StreamNo.{StreamNo}
-use Rattle.records.specs.declared.Open.{Open}
 use Rattle.sharing.specs.Sharing.{Kind, reading, writing, deleting, shareBit, anyKind, holds, shares, counted, conflict, onStream, anyConflict}
-use Rattle.consistency.specs.Relations.{live}
-use Rattle.consistency.specs.Consistent.{openAt, OpensConsistent}
-use Rattle.records.specs.Terms.{Terms, termsOf}
 
 and-none : (a : Bool) {b c : Bool} → (b ≡ false → c ≡ false) → (a && b) ≡ false → (a && c) ≡ false
 and-none true i h = i h

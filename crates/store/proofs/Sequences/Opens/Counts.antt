@@ -1,29 +1,11 @@
 -- The share counts stay true: an open joins or leaves, and a change leaves them.
+use Rattle.base.{specs.Base.{_<_, ℕ, any, BareStream, bare, withCounts, openUsed, zeroCounts, zeroOpen, zeroStream, Open, ShareCounts, Stream, StreamNo, getD, length, set, false, not, true, List, [], _∷_, map, _≡_}, proofs.Laws.{set-cases, eq-eqb, ne-eqb, List·getD-map, length-map, length-set, ⊎-elim, _∙_, ap, refl, sym, arith}}
 use lib.Seq.{map-set-same}
-use Prim.Native.Nat.{_<_, ℕ}
-use Rattle.consistency.specs.Consistent.{CountsTrue, openAt}
-use Rattle.consistency.specs.Relations.{live}
-use Rattle.lists.proofs.Set.{set-cases}
-use Rattle.lists.specs.Lists.{any}
-use Rattle.records.specs.Namespace.{BareStream, bare, withCounts}
-use Rattle.records.specs.Slots.{openUsed, zeroCounts, zeroOpen, zeroStream}
-use Rattle.records.specs.declared.Open.{Open}
-use Rattle.records.specs.declared.ShareCounts.{ShareCounts}
-use Rattle.records.specs.declared.Stream.{Stream}
-use Rattle.records.specs.declared.StreamNo.{StreamNo}
-use Rattle.sharing.proofs.Counts.{counts-cons, counts-less, counts-perm, counts-skip}
-use Rattle.sharing.specs.Sharing.{countsOf, onStream, withOpen, withoutOpen}
-use Rattle.store.proofs.Sequences.Opens.Join.{joined-live}
-use Rattle.store.proofs.Sequences.Opens.Leave.{left-live}
-use Rattle.store.specs.Store.{recount, rowsWithOpen, writeStreams}
+use Rattle.consistency.specs.{Consistent.{CountsTrue, openAt}, Relations.live}
+use Rattle.sharing.{proofs.Counts.{counts-cons, counts-less, counts-perm, counts-skip}, specs.Sharing.{countsOf, onStream, withOpen, withoutOpen}}
 use Rattle.tables.specs.Tables.{streamAt}
-use borrow.Author.Tests.{eq-eqb, ne-eqb}
-use lib.ListN.{List·getD-map, getD, length, length-map, length-set, set}
-use mathlib.Core.Bool.{false, not, true}
-use mathlib.Core.List.{List, [], _∷_, map}
-use mathlib.Core.Logic.{⊎-elim}
-use mathlib.Core.Path.{_∙_, _≡_, ap, refl, sym}
-use native.Mathlib.Omega.{arith}
+use Rattle.store.proofs.Sequences.Opens.{Join.joined-live, Leave.left-live}
+use Rattle.store.specs.Store.{recount, rowsWithOpen, writeStreams}
 
 pub length-recount : (f : ShareCounts → ShareCounts) (s : StreamNo) (ss : List Stream) → length (recount f s ss) ≡ length ss
 unfolding recount

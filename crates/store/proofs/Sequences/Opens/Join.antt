@@ -1,31 +1,9 @@
 -- An open joins the table: it takes the lowest free slot.
-use Prim.Native.Nat.{_<_, _≤_, suc, ℕ}
-use Rattle.consistency.specs.Consistent.{NoConflicts, OpensConsistent, openAt}
-use Rattle.consistency.specs.Relations.{live}
-use Rattle.lists.proofs.Tests.{excluded, not-both, not-is}
-use Rattle.lists.proofs.Keep.{none-kept-at}
-use Rattle.lists.proofs.First.{first-found, first-some}
-use Rattle.lists.proofs.Permutations.{keep-set-in}
-use Rattle.lists.specs.Lists.{Permutation, any, first, firstAfter}
-use Rattle.records.specs.Namespace.{BareStream}
-use Rattle.records.specs.Slots.{openUsed, zeroOpen}
-use Rattle.records.specs.Terms.{Terms, termsOf}
-use Rattle.records.specs.declared.Handle.{Handle}
-use Rattle.records.specs.declared.Open.{Open}
-use Rattle.records.specs.declared.StreamNo.{StreamNo}
-use Rattle.sharing.proofs.PairRule.{conflicting-sym}
-use Rattle.sharing.specs.Sharing.{anyConflict, conflict, conflicting, onStream}
-use Rattle.store.proofs.Sequences.Facts.{Joins}
-use Rattle.store.proofs.Sequences.Opens.Table.{conflicts-set}
-use Rattle.store.proofs.Sequences.Opens.Table.{replaced}
+use Rattle.base.{specs.Base.{_<_, _≤_, suc, ℕ, Permutation, any, first, firstAfter, BareStream, openUsed, zeroOpen, Terms, termsOf, Handle, Open, StreamNo, length, set, _&&_, false, not, true, List, _∷_, Option, _≡_}, proofs.Laws.{excluded, not-both, not-is, none-kept-at, first-found, first-some, keep-set-in, eq-eqb, ne-eqb, not-true, _∙_, ap, refl, sym, arith}}
+use Rattle.consistency.specs.{Consistent.{NoConflicts, OpensConsistent, openAt}, Relations.live}
+use Rattle.sharing.{proofs.PairRule.conflicting-sym, specs.Sharing.{anyConflict, conflict, conflicting, onStream}}
+use Rattle.store.proofs.Sequences.{Facts.Joins, Opens.Table.{conflicts-set, replaced}}
 use Rattle.store.specs.Store.{rowsWithOpen, stored}
-use borrow.Author.Tests.{eq-eqb, ne-eqb, not-true}
-use lib.ListN.{length, set}
-use mathlib.Core.Bool.{_&&_, false, not, true}
-use mathlib.Core.List.{List, _∷_}
-use mathlib.Core.Option.{Option}
-use mathlib.Core.Path.{_∙_, _≡_, ap, refl, sym}
-use native.Mathlib.Omega.{arith}
 
 -- the slot that an open takes
 pub record Taken (o : Open) (os : List Open) : Type 0 where

@@ -1,17 +1,6 @@
 -- An open leaves the table: its slot is free again.
-use Prim.Native.Nat.{ℕ, _<_}
-use mathlib.Core.Path.{_≡_, refl}
-use mathlib.Core.Bool.{true, false≢true}
-use mathlib.Core.List.{List, _∷_}
-use native.Mathlib.Omega.{arith}
-use lib.ListN.{length, set}
-use Rattle.lists.specs.Lists.{Permutation}
-use Rattle.lists.proofs.Permutations.{keep-set-gone}
-use Rattle.records.specs.Slots.{zeroOpen, openUsed}
-use Rattle.records.specs.Namespace.{BareStream}
-use Rattle.records.specs.declared.Open.{Open}
-use Rattle.consistency.specs.Relations.{live}
-use Rattle.consistency.specs.Consistent.{openAt, OpensConsistent, NoConflicts}
+use Rattle.base.{specs.Base.{ℕ, _<_, _≡_, true, List, _∷_, length, set, Permutation, zeroOpen, openUsed, BareStream, Open}, proofs.Laws.{refl, false≢true, arith, keep-set-gone}}
+use Rattle.consistency.specs.{Relations.live, Consistent.{openAt, OpensConsistent, NoConflicts}}
 use Rattle.store.proofs.Sequences.Opens.Table.{replaced, conflicts-set}
 
 pub left : {ss : List BareStream} {next : ℕ} {os : List Open} → OpensConsistent ss next os → (i : ℕ)

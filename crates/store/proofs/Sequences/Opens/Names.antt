@@ -1,25 +1,9 @@
 -- Opens come and go and the names stay; a change of the volume is the change of its names.
-use mathlib.Core.Bool.{true}
-use Prim.Native.Nat.{_<_}
-use mathlib.Core.Path.{_≡_, refl, ap, _∙_}
-use mathlib.Core.List.{List, [], _∷_, map}
-use native.Mathlib.Omega.{arith}
-use lib.ListN.{length, length-map, List·getD-map}
+use Rattle.base.{specs.Base.{true, _<_, _≡_, List, [], _∷_, map, length, writes, zeroStream, Namespace, BareStream, bareUsed, bareAt, bare, withCounts, namespace, StreamNo, Handle, ShareCounts, Stream, Open, Volume}, proofs.Laws.{refl, ap, _∙_, arith, length-map, map-set}}
 use lib.Seq.{map-set-same}
-use Rattle.lists.specs.Lists.{writes}
-use Rattle.lists.proofs.Set.{map-set}
-use Rattle.records.specs.Slots.{zeroStream}
-use Rattle.tables.specs.Tables.{streamAt}
-use Rattle.records.specs.Namespace.{Namespace, BareStream, bareUsed, bareAt, bare, withCounts, namespace}
-use Rattle.records.specs.declared.StreamNo.{StreamNo}
-use Rattle.records.specs.declared.Handle.{Handle}
-use Rattle.records.specs.declared.ShareCounts.{ShareCounts}
-use Rattle.records.specs.declared.Stream.{Stream}
-use Rattle.records.specs.declared.Open.{Open}
-use Rattle.records.specs.declared.Volume.{Volume}
 use Rattle.consistency.proofs.Streams.{stream-in}
-use Rattle.store.specs.Complete.{Change, changed}
-use Rattle.store.specs.Store.{changedVolume, recount, volumeWithOpen, volumeWithoutOpen, writeStreams}
+use Rattle.tables.specs.Tables.{streamAt}
+use Rattle.store.specs.{Complete.{Change, changed}, Store.{changedVolume, recount, volumeWithOpen, volumeWithoutOpen, writeStreams}}
 
 -- a used stream stands below the end
 pub used-below : (ss : List Stream) (s : StreamNo) → bareUsed (bareAt (map bare ss) s) ≡ true → s .0 < length ss

@@ -1,18 +1,8 @@
 -- The table of opens stays consistent where the names change and where a slot takes another record.
-use Prim.Native.Nat.{_≤_, ℕ}
-use Rattle.consistency.proofs.Slots.{slots-good, slots-set, two-set}
-use Rattle.consistency.specs.Consistent.{GoodOpenOf, NoConflicts, OpensConsistent, openAt}
-use Rattle.consistency.specs.Good.{GoodOpen, HandlesDiffer, OpensAgree, handlesDiffer}
-use Rattle.records.specs.Namespace.{BareStream}
-use Rattle.records.specs.Slots.{openUsed, zeroOpen}
-use Rattle.records.specs.declared.Open.{Open}
+use Rattle.base.{specs.Base.{_≤_, ℕ, BareStream, openUsed, zeroOpen, Open, set, false, true, List, _≡_}, proofs.Laws.{_∙_, subst, sym, arith}}
+use Rattle.consistency.{proofs.Slots.{slots-good, slots-set, two-set}, specs.{Consistent.{GoodOpenOf, NoConflicts, OpensConsistent, openAt}, Good.{GoodOpen, HandlesDiffer, OpensAgree, handlesDiffer}}}
 use Rattle.sharing.proofs.PairRule.{conflicting-sym}
 use Rattle.store.proofs.Sequences.Facts.{StreamsKept}
-use lib.ListN.{set}
-use mathlib.Core.Bool.{false, true}
-use mathlib.Core.List.{List}
-use mathlib.Core.Path.{_∙_, _≡_, subst, sym}
-use native.Mathlib.Omega.{arith}
 
 -- used streams are as they were: so are the opens on them
 pub opens-kept : {ss ss′ : List BareStream} {next : ℕ} {os : List Open} → OpensConsistent ss next os → StreamsKept ss ss′

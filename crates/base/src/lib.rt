@@ -1,0 +1,1 @@
+// The words of the definitions under one name. It has no code.
