@@ -71,9 +71,9 @@ expected c =
 abbrev pub Hold : List Case → Type 0
 Hold cases = map observed cases ≡ map expected cases
 
--- account 0, exact case; attributes, access, share, disposition, options, path
-abbrev pub asksWith : ℕ → ℕ → ℕ → ℕ → ℕ → List ℕ → Call
-asksWith attributes access share disposition options path =
+-- account 0, exact case, attributes 0: access, share, disposition, options, path
+abbrev pub asks : ℕ → ℕ → ℕ → ℕ → List ℕ → Call
+asks access share disposition options path =
     opens
     (record {
       account = 0;
@@ -81,14 +81,10 @@ asksWith attributes access share disposition options path =
       share = share;
       disposition = disposition;
       options = options;
-      attributes = attributes;
+      attributes = 0;
       fold = false;
     })
     path
-
--- the same with attributes 0: access, share, disposition, options, path
-abbrev pub asks : ℕ → ℕ → ℕ → ℕ → List ℕ → Call
-asks access share disposition options path = asksWith 0 access share disposition options path
 
 abbrev pub closesHandle : ℕ → Call
 closesHandle h = closes (record { 0 = h })

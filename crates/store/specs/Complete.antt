@@ -107,7 +107,7 @@ placeStreams ns file link name s =
     passed (placeFile file link ((s, unnamed) ∷ (t, streamNew (file .0) (file .1 .«file_type») name) ∷ []) t)))
 
 unfoldable pub place : Namespace → Creation → Checked Placed
-place ns (newStream f attributes name) = do
+place ns (newStream f leaf attributes) = do
   s ← freeStream ns 0
   passed
       (record {
@@ -115,7 +115,7 @@ place ns (newStream f attributes name) = do
             record {
               files = (f, withAttributes attributes (fileAt (ns .files) f)) ∷ [];
               links = [];
-              streams = (s, streamNew f Data name) ∷ [];
+              streams = (s, streamNew f Data (leaf .stream)) ∷ [];
             };
         file = f;
         stream = s;

@@ -21,8 +21,8 @@ pub record Existing : Type 0 where
 
 -- what an open adds
 pub data Creation : Type 0 where
-  -- to a file, whose attributes become these, a stream of this name
-  newStream : FileNo → ℕ → List ℕ → Creation
+  -- to a file, whose attributes become these, the stream that the last component names
+  newStream : FileNo → Leaf → ℕ → Creation
   -- to a directory, under the last component's name, this file; and a stream, if the component names one
   newFile : FileNo → Leaf → File → Creation
 
@@ -119,7 +119,7 @@ unfoldable pub admitStream : Namespace → Request → FileNo → Leaf → Check
 admitStream ns r f leaf = do
   terms ← grant ns r f (bitOr (r .access) writeData)
   refuseIf (ns .readOnly) MediaWriteProtected
-  passed (creating (newStream f (bitOr (fileAt (ns .files) f .attributes) archive) (leaf .stream)) terms)
+  passed (creating (newStream f leaf (bitOr (fileAt (ns .files) f .attributes) archive)) terms)
 
 unfoldable pub admit : Namespace → Request → Target → Checked Pending
 admit ns r (existingDirectory at s) = admitOpen ns r (at .file) s (readSharingOf r (fileAt (ns .files) (at .file)))

@@ -39,7 +39,7 @@ pub record FileFits (ns : Namespace) (dir : FileNo) (leaf : Leaf) (file : File) 
   pub directoryUnnamed : isDirectory (file .«file_type») ≡ true → leaf .stream ≡ []
 
 abbrev pub CreationFits : Namespace → Creation → Type 0
-CreationFits ns (newStream f a name) = StreamFits ns f a name
+CreationFits ns (newStream f leaf a) = StreamFits ns f a (leaf .stream)
 CreationFits ns (newFile dir leaf file) = FileFits ns dir leaf file
 
 -- an open of a stream that is there

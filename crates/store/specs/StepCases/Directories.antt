@@ -1,6 +1,6 @@
 -- Step 10: a found directory.
 use Rattle.base.specs.Base.{List, [], _∷_, _++_, replicate}
-use Rattle.store.specs.StepCases.{Form.{Case, refuses, accepts, leaves, each, ask, by, attributed, close, from, masked, after, fresh, but, makes, makesDirectory, made, stream, ofDirectory, entry}, Statuses.{ACCESS_DENIED, OBJECT_NAME_COLLISION, SHARING_VIOLATION, opened, overwritten}}
+use Rattle.store.specs.{StepCases.{Form.{Case, refuses, accepts, leaves, each, ask, by, attributed, close, from, masked, after, fresh, but, makes, makesDirectory, made, stream, ofDirectory, entry, acceptedRow, fileOf}, Statuses.{ACCESS_DENIED, OBJECT_NAME_COLLISION, SHARING_VIOLATION, opened, overwritten}}, Cases.a}
 
 abbrev pub directoryCases : List Case
 directoryCases =
@@ -19,7 +19,7 @@ directoryCases =
     ∷ refuses (from (0x1F01FF ∷ 0x81 ∷ replicate 6 0) (ask 1 0 1 0 "" ∷ [])) (by 1 (ask 2 7 1 0 "")) ACCESS_DENIED
     ∷ refuses (from (0x1F01FF ∷ 0x81 ∷ replicate 6 0) (ask 1 0 1 0 "" ∷ [])) (by 1 (ask 1 7 1 0 "")) SHARING_VIOLATION
     ∷ refuses (but 1 0x10 (replicate 8 1) (after (makesDirectory "d" ∷ []))) (ask 2 7 1 0 "d") ACCESS_DENIED
-    ∷ leaves (but 0 0x10 (replicate 8 1) (after (makesDirectory "d" ∷ []))) (ask 2 7 1 0 "d") opened 2 2 1 0x10 (replicate 8 0x1F01FF)
+    ∷ leaves (but 0 0x10 (replicate 8 1) (after (makesDirectory "d" ∷ []))) (ask 2 7 1 0 "d") (acceptedRow opened 2 2) (fileOf 1 0x10 (replicate 8 0x1F01FF))
     ∷ []
 
 -- share read, in a directory without any open

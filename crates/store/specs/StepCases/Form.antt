@@ -1,10 +1,10 @@
 -- The form of the step cases: one call on the model after a few others, with its reply and everything that the model keeps
 -- afterwards. The model is asked alone: by the theorem about every sequence the object store answers alike. The numbers
 -- are those of document 01, written out, and none of the definitions' constants.
-use Rattle.base.specs.Base.{ℕ, zero, suc, _-_, _≡_, Bool, true, false, cond, _&&_, List, [], _∷_, _++_, map, none, some, bitAnd, eqb, length, replicate, set, fileUsed, linkUsed, BareStream, Namespace, bareUsed, FileType, Unused, Data, Directory, File, Link, Open, Request, Reply, seen, Step}
+use Rattle.base.specs.Base.{ℕ, zero, suc, _-_, _≡_, Bool, true, false, cond, _&&_, List, [], _∷_, _++_, map, none, some, bitAnd, eqb, length, replicate, set, fileUsed, linkUsed, BareStream, Namespace, bareUsed, FileType, Unused, Data, Directory, File, Link, Open, Request, Reply, seen, Step, namespace, FileNo}
 use Prim.Native.{Char.code, String.{String, len, charAt}}
 use Rattle.tables.specs.Tables.{fileAt}
-use Rattle.store.specs.{Model.{Model, modelFormat}, Calls.{Call, opens, closes, setsReadOnly, modelStep}, Evaluate.{computes, modelRun}}
+use Rattle.store.specs.{Model.{Model, modelFormat}, Calls.{Call, opens, closes, setsReadOnly, modelStep}, Evaluate.{computes, modelRun}, Cases.a}
 
 -- a text of ASCII signs as units
 unfoldable pub unitsFrom : String → ℕ → ℕ → List ℕ
@@ -72,10 +72,15 @@ modelOf tables count entries = record { namespace = tables; count = count; entri
 unfoldable pub tablesOf : Model → Namespace
 tablesOf m = m .namespace
 
-unfoldable pub withFile : ℕ → File → Model → Model
-withFile n f m =
+-- a file at its number, with attributes and masks
+unfoldable pub fileOf : ℕ → ℕ → List ℕ → FileNo × File
+fileOf n attributes masks =
+    (record { 0 = n }, record { «file_type» = typeBy attributes; attributes = attributes; masks = masks })
+
+unfoldable pub withFile : FileNo × File → Model → Model
+withFile f m =
     let t = tablesOf m in
-    modelOf (record { readOnly = t .readOnly; files = set (t .files) n f; links = t .links; streams = t .streams }) (m .count) (m .entries)
+    modelOf (record { readOnly = t .readOnly; files = set (t .files) (f .0 .0) (f .1); links = t .links; streams = t .streams }) (m .count) (m .entries)
 
 -- where a case starts: a fresh volume with these masks, then these calls, then what no short list of calls leads to
 pub record Start : Type 0 where
@@ -103,7 +108,7 @@ but n attributes masks s =
     record {
       masks = s .masks;
       calls = s .calls;
-      altered = λ m. withFile n (record { «file_type» = typeBy attributes; attributes = attributes; masks = masks }) m;
+      altered = λ m. withFile (fileOf n attributes masks) m;
     }
 
 -- the tables, the count and the entries are these
@@ -204,9 +209,8 @@ pub data Case : Type 0 where
   accepts : Start → Call → ℕ → List Made → List BareStream → List Open → Case
   -- close or set_read_only is done, with no action and zeros, and the count stays
   does : Start → Call → Bool → List Made → List BareStream → List Open → Case
-  -- an open is accepted with the action, handle and granted access; then the file of this number has these attributes and
-  -- masks
-  leaves : Start → Call → ℕ → ℕ → ℕ → ℕ → ℕ → List ℕ → Case
+  -- the reply, and afterwards the file at this number
+  leaves : Start → Call → List ℕ → FileNo × File → Case
   -- the reply alone; the reply and the model afterwards
   replies : Start → Call → List ℕ → Case
   becomes : Start → Call → List ℕ → Model → Case
@@ -237,12 +241,11 @@ unfoldable pub looked : (Model → List (List ℕ)) → Step Model → List (Lis
 looked look now = replyRow (now .reply) ∷ look (now .state)
 
 unfoldable pub observed : Case → List (List ℕ)
-unfolding computes modelRun unitsFrom text asking modelOf tablesOf withFile stored typeBy filesMade linksMade rows typeRow fileRow linkRow streamRow entryRow kept keeps replyRow started looked
+unfolding computes modelRun unitsFrom text asking modelOf tablesOf withFile fileOf stored typeBy filesMade linksMade rows typeRow fileRow linkRow streamRow entryRow kept keeps replyRow started looked
 observed (refuses s c status) = looked kept (modelStep (started s) c)
 observed (accepts s c action ms streams entries) = looked kept (modelStep (started s) c)
 observed (does s c mark ms streams entries) = looked kept (modelStep (started s) c)
-observed (leaves s c action handle granted n attributes masks) =
-    looked (λ m. fileRow (fileAt (tablesOf m .files) (record { 0 = n })) ∷ []) (modelStep (started s) c)
+observed (leaves s c reply f) = looked (λ m. fileRow (fileAt (tablesOf m .files) (f .0)) ∷ []) (modelStep (started s) c)
 observed (replies s c reply) = looked (λ m. []) (modelStep (started s) c)
 observed (becomes s c reply m) = looked kept (modelStep (started s) c)
 observed (refusesFormat s masks mark status) = looked kept (modelFormat (started s) masks mark)
@@ -261,10 +264,7 @@ expected (accepts s c action ms streams entries) =
     ∷ keeps (s .masks) (tablesOf (started s) .readOnly) (o .handle .0) ms streams entries
 expected (does s c mark ms streams entries) =
     doneRow ∷ keeps (s .masks) mark (started s .count) ms streams entries
-expected (leaves s c action handle granted n attributes masks) =
-    acceptedRow action handle granted
-    ∷ fileRow (record { «file_type» = typeBy attributes; attributes = attributes; masks = masks })
-    ∷ []
+expected (leaves s c reply f) = reply ∷ fileRow (f .1) ∷ []
 expected (replies s c reply) = reply ∷ []
 expected (becomes s c reply m) = reply ∷ kept m
 expected (refusesFormat s masks mark status) = refusedRow status ∷ kept (started s)

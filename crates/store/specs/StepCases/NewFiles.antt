@@ -1,6 +1,6 @@
 -- Step 9: a new file.
 use Rattle.base.specs.Base.{ℕ, List, [], _∷_, replicate}
-use Rattle.store.specs.StepCases.{Form.{Case, Start, refuses, accepts, leaves, ask, by, attributed, from, masked, after, fresh, but, makes, makesDirectory, marks, made, stream, ofDirectory, entry}, Statuses.{INVALID_PARAMETER, ACCESS_DENIED, MEDIA_WRITE_PROTECTED, created}}
+use Rattle.store.specs.{StepCases.{Form.{Case, Start, refuses, accepts, leaves, ask, by, attributed, from, masked, after, fresh, but, makes, makesDirectory, marks, made, stream, ofDirectory, entry, acceptedRow, fileOf}, Statuses.{INVALID_PARAMETER, ACCESS_DENIED, MEDIA_WRITE_PROTECTED, created}}, Cases.a}
 
 -- a new file, a new directory: from a start without files, asked with attributes, access and share; its attributes and
 -- granted access
@@ -74,17 +74,17 @@ newFileCases =
 abbrev pub parentCases : List Case
 parentCases =
     -- bit 0x2000 as the parent's, asked or not, and no other bit
-    leaves (but 0 0x2010 all fresh) (ask 1 7 2 0 "a") created 1 1 1 0x2020 all
-    ∷ leaves (but 0 0x2010 all fresh) (attributed 0x2000 (ask 1 7 2 0 "a")) created 1 1 1 0x2020 all
-    ∷ leaves (but 0 0x2010 all fresh) (ask 1 7 2 1 "d") created 1 1 1 0x2010 all
-    ∷ leaves (but 0 0x3137 all fresh) (ask 1 7 2 0 "a") created 1 1 1 0x2020 all
-    ∷ leaves (but 0 0x1137 all fresh) (attributed 0x2004 (ask 1 7 2 0 "a")) created 1 1 1 0x24 all
+    leaves (but 0 0x2010 all fresh) (ask 1 7 2 0 "a") (acceptedRow created 1 1) (fileOf 1 0x2020 all)
+    ∷ leaves (but 0 0x2010 all fresh) (attributed 0x2000 (ask 1 7 2 0 "a")) (acceptedRow created 1 1) (fileOf 1 0x2020 all)
+    ∷ leaves (but 0 0x2010 all fresh) (ask 1 7 2 1 "d") (acceptedRow created 1 1) (fileOf 1 0x2010 all)
+    ∷ leaves (but 0 0x3137 all fresh) (ask 1 7 2 0 "a") (acceptedRow created 1 1) (fileOf 1 0x2020 all)
+    ∷ leaves (but 0 0x1137 all fresh) (attributed 0x2004 (ask 1 7 2 0 "a")) (acceptedRow created 1 1) (fileOf 1 0x24 all)
     -- the parent's, not the root's
-    ∷ leaves (but 1 0x2010 all below) (ask 1 7 2 0 "d\\a") created 2 1 2 0x2020 all
-    ∷ leaves (but 0 0x2010 all below) (ask 1 7 2 0 "d\\a") created 2 1 2 0x20 all
+    ∷ leaves (but 1 0x2010 all below) (ask 1 7 2 0 "d\\a") (acceptedRow created 2 1) (fileOf 2 0x2020 all)
+    ∷ leaves (but 0 0x2010 all below) (ask 1 7 2 0 "d\\a") (acceptedRow created 2 1) (fileOf 2 0x20 all)
     -- masks copy the parent's; the parent's mask decides, of the account
-    ∷ leaves (but 1 0x10 own below) (by 1 (ask 1 7 2 0 "d\\a")) created 2 1 2 0x20 own
-    ∷ leaves (but 1 0x10 own below) (by 2 (ask 1 7 2 1 "d\\e")) created 2 1 2 0x10 own
+    ∷ leaves (but 1 0x10 own below) (by 1 (ask 1 7 2 0 "d\\a")) (acceptedRow created 2 1) (fileOf 2 0x20 own)
+    ∷ leaves (but 1 0x10 own below) (by 2 (ask 1 7 2 1 "d\\e")) (acceptedRow created 2 1) (fileOf 2 0x10 own)
     ∷ refuses (but 1 0x10 own below) (ask 1 7 2 0 "d\\a") ACCESS_DENIED
     ∷ refuses (but 1 0x10 own below) (by 1 (ask 1 7 2 1 "d\\e")) ACCESS_DENIED
     ∷ []

@@ -1,6 +1,6 @@
 -- The access rule and the sharing rule.
 use Rattle.base.specs.Base.{ℕ, List, [], _∷_, _++_, replicate}
-use Rattle.store.specs.StepCases.{Form.{Case, refuses, accepts, leaves, each, ask, by, attributed, close, from, masked, after, but, makes, makesDirectory, made, stream, ofDirectory, entry}, Statuses.{ACCESS_DENIED, SHARING_VIOLATION, opened}}
+use Rattle.store.specs.{StepCases.{Form.{Case, refuses, accepts, leaves, each, ask, by, attributed, close, from, masked, after, but, makes, makesDirectory, made, stream, ofDirectory, entry, acceptedRow, fileOf}, Statuses.{ACCESS_DENIED, SHARING_VIOLATION, opened}}, Cases.a}
 
 -- an open of the root by the mask, with its granted access
 abbrev pub rootOpened : ℕ → ℕ → ℕ → Case
@@ -51,7 +51,7 @@ accessCases =
     ∷ refuses (from (0x81 ∷ replicate 7 0) []) (by 7 (ask 1 7 1 0 "")) ACCESS_DENIED
     -- the mask on that file
     ∷ refuses (but 1 0x20 (replicate 8 2) (after (makes "a" ∷ []))) (ask 1 7 1 0 "a") ACCESS_DENIED
-    ∷ leaves (but 1 0x20 (replicate 8 2) (after (makes "a" ∷ []))) (ask 0x02000000 7 1 0 "a") opened 2 2 1 0x20 (replicate 8 2)
+    ∷ leaves (but 1 0x20 (replicate 8 2) (after (makes "a" ∷ []))) (ask 0x02000000 7 1 0 "a") (acceptedRow opened 2 2) (fileOf 1 0x20 (replicate 8 2))
     ∷ []
 
 -- `a` has an open with this access and share, and another is asked for: it passes, or it conflicts

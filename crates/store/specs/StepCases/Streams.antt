@@ -1,6 +1,6 @@
 -- Step 11: a found data file.
 use Rattle.base.specs.Base.{ℕ, List, [], _∷_, _++_, replicate}
-use Rattle.store.specs.{StepCases.{Form.{Case, Start, refuses, accepts, leaves, each, ask, by, attributed, folding, from, after, but, makes, marks, made, stream, entry}, Statuses.{ACCESS_DENIED, MEDIA_WRITE_PROTECTED, OBJECT_NAME_NOT_FOUND, OBJECT_NAME_COLLISION, SHARING_VIOLATION, superseded, opened, created, overwritten}}, Calls.Call}
+use Rattle.store.specs.{StepCases.{Form.{Case, Start, refuses, accepts, leaves, each, ask, by, attributed, folding, from, after, but, makes, marks, made, stream, entry, acceptedRow, fileOf}, Statuses.{ACCESS_DENIED, MEDIA_WRITE_PROTECTED, OBJECT_NAME_NOT_FOUND, OBJECT_NAME_COLLISION, SHARING_VIOLATION, superseded, opened, created, overwritten}}, Calls.Call, Cases.a}
 
 -- `a` with the stream `s`, asked for with attributes; account 0 has every access, account 1 the mask, the others none
 abbrev pub fileAs : ℕ → ℕ → Start
@@ -69,8 +69,8 @@ foundCases =
     ∷ accepted (fileAs 0 0) (attributed 0x1000 (ask 1 7 4 0 "a")) overwritten 0x1020 1 0x113
     ∷ accepted (fileAs 0 0) (attributed 0x2000 (ask 1 7 4 0 "a")) overwritten 0x20 1 0x113
     ∷ accepted (fileAs 0 0) (attributed 0x31A7 (ask 1 7 0 0 "a")) superseded 0x1127 1 0x10111
-    ∷ leaves (but 1 0x2000 (replicate 8 0x193) (fileAs 0 0)) (ask 1 7 4 0 "a") overwritten 2 0x113 1 0x20 (replicate 8 0x193)
-    ∷ leaves (but 1 0x2000 (replicate 8 0x193) (fileAs 0 0)) (ask 1 7 4 0 "a:s") overwritten 2 0x3 1 0x2000 (replicate 8 0x193)
+    ∷ leaves (but 1 0x2000 (replicate 8 0x193) (fileAs 0 0)) (ask 1 7 4 0 "a") (acceptedRow overwritten 2 0x113) (fileOf 1 0x20 (replicate 8 0x193))
+    ∷ leaves (but 1 0x2000 (replicate 8 0x193) (fileAs 0 0)) (ask 1 7 4 0 "a:s") (acceptedRow overwritten 2 0x3) (fileOf 1 0x2000 (replicate 8 0x193))
     ∷ []
 
 -- the access gains its bits before the access rule and the sharing check
@@ -134,7 +134,7 @@ missingCases =
     ∷ refuses readOnly (by 1 (ask 1 0 3 0 "a:t")) ACCESS_DENIED
     ∷ refuses readOnly (ask 1 0 3 0 "a:t") MEDIA_WRITE_PROTECTED
     -- the file gains 0x20, and keeps its other attributes and its masks
-    ∷ leaves (but 1 0x3106 own (fileAs 0 0)) (by 1 (ask 1 0 2 0 "a:t")) created 2 3 1 0x3126 own
+    ∷ leaves (but 1 0x3106 own (fileAs 0 0)) (by 1 (ask 1 0 2 0 "a:t")) (acceptedRow created 2 3) (fileOf 1 0x3126 own)
     -- an open of another stream is not looked at
     ∷ accepts (after (ask 1 0 2 0 "a" ∷ [])) (ask 1 0 2 0 "a:t") created (made 0 "a" 0x20 ∷ []) (stream 1 "" ∷ stream 1 "t" ∷ [])
     (entry 2 1 2 3 0 ∷ entry 1 1 1 1 0 ∷ [])

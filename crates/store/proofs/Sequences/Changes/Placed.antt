@@ -5,5 +5,5 @@ use Rattle.store.specs.{Prepare.{Creation, newStream, newFile}, Complete
 
 pub placed-well : (ns : Namespace) → NamespaceConsistent ns → (c : Creation) → CreationFits ns c
     → Ends Early (PlacedWell ns) (place ns c)
-placed-well ns h (newStream f a name) fit = stream-placed ns f a name h fit
+placed-well ns h (newStream f leaf a) fit = stream-placed ns f leaf a h fit
 placed-well ns h (newFile dir leaf file) fit = file-placed ns dir leaf file h fit

@@ -1,39 +1,40 @@
 -- A stream that a data file gains: its placing leaves consistent names.
-use Rattle.base.{specs.Base.{ℕ, _≡_, true, false, List, [], _∷_, set, isEmpty, writes, isUsed, isDirectory, fileUsed, Namespace, BareStream, zeroBare, bareUsed, bareAt, Data, FileNo, StreamNo, File}, proofs.Laws.{refl, sym, _∙_, ap, arith, refuted, empty-is, count-none, FreeSlot, Ends, ends-bind, goes}}
+use Rattle.base.{specs.Base.{ℕ, _≡_, true, false, List, [], _∷_, set, isEmpty, writes, isUsed, isDirectory, fileUsed, Namespace, BareStream, zeroBare, bareUsed, bareAt, Data, FileNo, StreamNo, File, streamUsed}, proofs.Laws.{refl, sym, _∙_, ap, arith, refuted, empty-is, count-none, FreeSlot, Ends, ends-bind, goes}}
 use Rattle.consistency.{specs.Relations.unnamedOf, proofs.{Numbered.file-in, Relations.{stream-of-iff, unnamed-iff}}}
+use Rattle.paths.specs.Paths.{Leaf}
 use Rattle.tables.specs.Tables.{fileAt}
 use Rattle.store.proofs.Sequences.{Facts.{NamespaceConsistent, StreamFits, PlacedWell, Early}, Changes.{Types.is-data, Attributes.{attributes-kept, same-types}, Free.stream-free, Relations.stream-name-new, Streams.{streams-with, stream-kept, stream-there}, NewStream.{StreamMade, made-used, named-sound}}}
-use Rattle.store.specs.{Prepare.newStream, Complete.{changed, attributeChange, withAttributes, streamNew, place}}
+use Rattle.store.specs.{Prepare.newStream, Complete.{changed, attributeChange, withAttributes, streamNew, place}, StepCases.{Form.{after, stream}, Names.valid, Resources.file}}
 
-module _ (ns : Namespace) (f : FileNo) (a : ℕ) (name : List ℕ) (h : NamespaceConsistent ns) (fit : StreamFits ns f a name) where
+module _ (ns : Namespace) (f : FileNo) (leaf : Leaf) (a : ℕ) (h : NamespaceConsistent ns) (fit : StreamFits ns f a (leaf .stream)) where
   is-used : fileUsed (fileAt (ns .files) f) ≡ true
   unfolding fileUsed isUsed
   is-used = ap isUsed (is-data _ (fit .attributes .dataFile))
 
-  -- the file's unnamed stream would match an empty name
-  named : isEmpty name ≡ false
+  -- the file's unnamed stream would match an empty (leaf .stream)
+  named : isEmpty (leaf .stream) ≡ false
   unfolding bareAt
   named =
-      refuted (isEmpty name)
+      refuted (isEmpty (leaf .stream))
       (λ e.
       let none-unnamed =
       count-none (unnamedOf f) zeroBare (ns .streams)
       (λ i q.
       let u = unnamed-iff f _ .0 q in
       let s = stream-of-iff f _ .0 (u .0) in
-      stream-name-new (fit .fold) f name (ns .streams) (fit .nameNew) (record { 0 = i }) (s .0) (s .1)
-      (u .1 ∙ sym (empty-is name e))) in
+      stream-name-new (fit .fold) f (leaf .stream) (ns .streams) (fit .nameNew) (record { 0 = i }) (s .0) (s .1)
+      (u .1 ∙ sym (empty-is (leaf .stream) e))) in
       let z : ⊥ = omega (arith, none-unnamed, h .streams .oneUnnamed f is-used) in
       z)
 
   module _ (s : StreamNo) (slot : FreeSlot bareUsed zeroBare (ns .streams) (s .0)) where
     new : BareStream
-    new = streamNew f Data name
+    new = streamNew f Data (leaf .stream)
 
     files-after : List File
     files-after = set (ns .files) (f .0) (withAttributes a (fileAt (ns .files) f))
 
-    made : StreamMade files-after (ns .streams) f Data name
+    made : StreamMade files-after (ns .streams) f Data (leaf .stream)
     unfolding files-after isUsed withAttributes
     made =
         record {
@@ -43,7 +44,7 @@ module _ (ns : Namespace) (f : FileNo) (a : ℕ) (name : List ℕ) (h : Namespac
               (same-types (ns .files) f _ (file-in (ns .files) f is-used) refl f
               ∙ is-data _ (fit .attributes .dataFile));
           valid = fit .nameValid;
-          nameNew = stream-name-new (fit .fold) f name (ns .streams) (fit .nameNew);
+          nameNew = stream-name-new (fit .fold) f (leaf .stream) (ns .streams) (fit .nameNew);
         }
 
     well : PlacedWell ns
@@ -52,7 +53,7 @@ module _ (ns : Namespace) (f : FileNo) (a : ℕ) (name : List ℕ) (h : Namespac
               record {
                 files = (f, withAttributes a (fileAt (ns .files) f)) ∷ [];
                 links = [];
-                streams = (s, streamNew f Data name) ∷ [];
+                streams = (s, streamNew f Data (leaf .stream)) ∷ [];
               };
           file = f;
           stream = s;
@@ -68,14 +69,14 @@ module _ (ns : Namespace) (f : FileNo) (a : ℕ) (name : List ℕ) (h : Namespac
                 links = kept .links;
                 streams =
                     streams-with (ns .streams) s new slot files-after files-after (λ g u. refl) (kept .streams)
-                    (named-sound files-after (ns .streams) f Data name made (kept .streams) named refl);
+                    (named-sound files-after (ns .streams) f Data (leaf .stream) made (kept .streams) named refl);
               };
           kept = stream-kept (ns .streams) s new slot;
           wasFree = slot .free;
-          streamUsed = ap bareUsed there ∙ made-used files-after (ns .streams) f Data name made;
+          streamUsed = ap bareUsed there ∙ made-used files-after (ns .streams) f Data (leaf .stream) made;
           streamFile = ap (λ (x : BareStream). x .file) there;
         }
 
-  pub stream-placed : Ends Early (PlacedWell ns) (place ns (newStream f a name))
+  pub stream-placed : Ends Early (PlacedWell ns) (place ns (newStream f leaf a))
   unfolding place
   stream-placed = ends-bind (stream-free ns 0) (λ s q. goes (well s (q .1)))
