@@ -1,6 +1,6 @@
 -- Close, set_read_only, and format without tables.
 use Rattle.base.specs.Base.{ℕ, true, false, List, [], _∷_, _++_, replicate, BareStream, Open}
-use Rattle.store.specs.{Calls.{Call, setsReadOnly}, StepCases.{Form.{Case, Start, Made, refuses, accepts, does, refusesFormat, formats, each, ask, close, after, makes, marks, made, stream, entry}, Statuses.{INVALID_PARAMETER, INVALID_HANDLE, opened}}}
+use Rattle.store.specs.{Calls.{Call, setsReadOnly}, StepCases.{Form.{Case, Start, Made, refuses, accepts, does, refusesFormat, formats, each, ask, close, after, makes, marks, made, stream, entry}, Statuses.{INVALID_PARAMETER, INVALID_HANDLE, FILE_OPENED}}}
 
 abbrev pub callCases : List Case
 callCases =
@@ -14,7 +14,7 @@ callCases =
     ∷ refuses three (close 4) INVALID_HANDLE
     ∷ refuses (after (opens ++ close 2 ∷ [])) (close 2) INVALID_HANDLE
     -- a handle is never issued again
-    ∷ accepts (after (opens ++ close 3 ∷ [])) (ask 1 7 1 0 "a") opened files streams (entry 4 1 1 1 7 ∷ second ∷ first ∷ [])
+    ∷ accepts (after (opens ++ close 3 ∷ [])) (ask 1 7 1 0 "a") FILE_OPENED files streams (entry 4 1 1 1 7 ∷ second ∷ first ∷ [])
     -- set_read_only sets the mark, and nothing else
     ∷ does three (setsReadOnly true) true files streams (third ∷ second ∷ first ∷ [])
     ∷ does three (setsReadOnly false) false files streams (third ∷ second ∷ first ∷ [])

@@ -66,8 +66,8 @@ unfoldable pub typeBy : ℕ → FileType
 typeBy attributes = cond (eqb (bitAnd attributes 0x10) 0) Data Directory
 
 -- the model by its parts
-unfoldable pub modelOf : Namespace → ℕ → List Open → Model
-modelOf tables count entries = record { namespace = tables; count = count; entries = entries }
+unfoldable pub modelWith : Namespace → ℕ → List Open → Model
+modelWith tables count entries = record { namespace = tables; count = count; entries = entries }
 
 unfoldable pub tablesOf : Model → Namespace
 tablesOf m = m .namespace
@@ -80,7 +80,7 @@ fileOf n attributes masks =
 unfoldable pub withFile : FileNo × File → Model → Model
 withFile f m =
     let t = tablesOf m in
-    modelOf (record { readOnly = t .readOnly; files = set (t .files) (f .0 .0) (f .1); links = t .links; streams = t .streams }) (m .count) (m .entries)
+    modelWith (record { readOnly = t .readOnly; files = set (t .files) (f .0 .0) (f .1); links = t .links; streams = t .streams }) (m .count) (m .entries)
 
 -- where a case starts: a fresh volume with these masks, then these calls, then what no short list of calls leads to
 pub record Start : Type 0 where
@@ -113,7 +113,7 @@ but n attributes masks s =
 
 -- the tables, the count and the entries are these
 abbrev pub holding : Namespace → ℕ → List Open → Start
-holding tables count entries = record { masks = []; calls = []; altered = λ m. modelOf tables count entries }
+holding tables count entries = record { masks = []; calls = []; altered = λ m. modelWith tables count entries }
 
 -- a file that was made: the directory that it is in, its name, its attributes. The first one made is file 1 with link 0,
 -- since the lowest free slots are taken and none is ever freed
@@ -125,8 +125,8 @@ pub record Made : Type 0 where
 abbrev pub made : ℕ → String → ℕ → Made
 made parent name attributes = record { parent = parent; name = text name; attributes = attributes }
 
-unfoldable pub stored : List ℕ → List ℕ
-stored name = name ++ replicate (32 - length name) 0
+unfoldable pub storedUnits : List ℕ → List ℕ
+storedUnits name = name ++ replicate (32 - length name) 0
 
 unfoldable pub filesMade : List ℕ → List Made → List File
 filesMade masks ms =
@@ -135,17 +135,17 @@ filesMade masks ms =
 unfoldable pub linksMade : ℕ → List Made → List Link
 linksMade n [] = []
 linksMade n (m ∷ ms) =
-    record { parent = record { 0 = m .parent }; name = stored (m .name); file = record { 0 = n } } ∷ linksMade (suc n) ms
+    record { parent = record { 0 = m .parent }; name = storedUnits (m .name); file = record { 0 = n } } ∷ linksMade (suc n) ms
 
 -- a data stream of a file, a directory's stream
-abbrev pub streamOf : FileType → ℕ → List ℕ → BareStream
-streamOf type file name = record { file = record { 0 = file }; streamType = type; name = stored name }
+abbrev pub streamAs : FileType → ℕ → List ℕ → BareStream
+streamAs type file name = record { file = record { 0 = file }; streamType = type; name = storedUnits name }
 
 abbrev pub stream : ℕ → String → BareStream
-stream file name = streamOf Data file (text name)
+stream file name = streamAs Data file (text name)
 
 abbrev pub ofDirectory : ℕ → BareStream
-ofDirectory file = streamOf Directory file []
+ofDirectory file = streamAs Directory file []
 
 -- an entry: handle, file, stream, granted, share
 abbrev pub entry : ℕ → ℕ → ℕ → ℕ → ℕ → Open
@@ -241,7 +241,7 @@ unfoldable pub looked : (Model → List (List ℕ)) → Step Model → List (Lis
 looked look now = replyRow (now .reply) ∷ look (now .state)
 
 unfoldable pub observed : Case → List (List ℕ)
-unfolding computes modelRun unitsFrom text asking modelOf tablesOf withFile fileOf stored typeBy filesMade linksMade rows typeRow fileRow linkRow streamRow entryRow kept keeps replyRow started looked
+unfolding computes modelRun unitsFrom text asking modelWith tablesOf withFile fileOf storedUnits typeBy filesMade linksMade rows typeRow fileRow linkRow streamRow entryRow kept keeps replyRow started looked
 observed (refuses s c status) = looked kept (modelStep (started s) c)
 observed (accepts s c action ms streams entries) = looked kept (modelStep (started s) c)
 observed (does s c mark ms streams entries) = looked kept (modelStep (started s) c)

@@ -2,7 +2,7 @@
 use Rattle.base.specs.Base.{ℕ, _≡_, Bool, true, false, List, [], _∷_, _++_, replicate, Data}
 use Rattle.names.specs.Names.{validFileName, validStreamName}
 use Rattle.stored_names.specs.StoredNames.{wellStored}
-use Rattle.store.specs.StepCases.{Form.{stored, Case, refuses, accepts, each, text, ask, asks, after, fresh, makes, makesDirectory, marks, made, stream, streamOf, ofDirectory, entry}, Statuses.{OBJECT_NAME_INVALID, OBJECT_PATH_NOT_FOUND, opened, created}}
+use Rattle.store.specs.StepCases.{Form.{storedUnits, Case, refuses, accepts, each, text, ask, asks, after, fresh, makes, makesDirectory, marks, made, stream, streamAs, ofDirectory, entry}, Statuses.{OBJECT_NAME_INVALID, OBJECT_PATH_NOT_FOUND, FILE_OPENED, FILE_CREATED}}
 
 -- a path that names no file: refused by its name, whatever else
 abbrev pub invalid : List ℕ → Case
@@ -11,14 +11,14 @@ invalid path = refuses fresh (asks 1 7 2 0 path) OBJECT_NAME_INVALID
 -- a path in the root that makes a file of the name; of the name, with a stream beside the unnamed one
 abbrev pub valid : List ℕ → List ℕ → Case
 valid path name =
-    accepts fresh (asks 1 7 2 0 path) created (record { parent = 0; name = name; attributes = 0x20 } ∷ [])
+    accepts fresh (asks 1 7 2 0 path) FILE_CREATED (record { parent = 0; name = name; attributes = 0x20 } ∷ [])
     (stream 1 "" ∷ [])
     (entry 1 1 1 1 7 ∷ [])
 
 abbrev pub validStream : List ℕ → List ℕ → List ℕ → Case
 validStream path name named =
-    accepts fresh (asks 1 7 2 0 path) created (record { parent = 0; name = name; attributes = 0x20 } ∷ [])
-    (stream 1 "" ∷ streamOf Data 1 named ∷ [])
+    accepts fresh (asks 1 7 2 0 path) FILE_CREATED (record { parent = 0; name = name; attributes = 0x20 } ∷ [])
+    (stream 1 "" ∷ streamAs Data 1 named ∷ [])
     (entry 1 1 2 1 7 ∷ [])
 
 abbrev pub long : ℕ → List ℕ
@@ -27,21 +27,21 @@ long n = replicate n 0x61
 abbrev pub pathCases : List Case
 pathCases =
     -- a path over 255 units; the empty path is the root, and so are backslashes alone
-    accepts fresh (ask 1 7 1 0 "") opened [] [] (entry 1 0 0 1 7 ∷ [])
-    ∷ accepts fresh (asks 1 7 1 0 (replicate 255 0x5C)) opened [] [] (entry 1 0 0 1 7 ∷ [])
+    accepts fresh (ask 1 7 1 0 "") FILE_OPENED [] [] (entry 1 0 0 1 7 ∷ [])
+    ∷ accepts fresh (asks 1 7 1 0 (replicate 255 0x5C)) FILE_OPENED [] [] (entry 1 0 0 1 7 ∷ [])
     ∷ refuses fresh (asks 1 7 1 0 (replicate 256 0x5C)) OBJECT_NAME_INVALID
     -- a trailing backslash with 0x40, on the root too; without it, and one elsewhere
     ∷ refuses (after (makes "a" ∷ [])) (ask 1 7 1 0x40 "a\\") OBJECT_NAME_INVALID
     ∷ refuses fresh (ask 1 7 1 0x40 "\\") OBJECT_NAME_INVALID
-    ∷ accepts (after (makes "a" ∷ [])) (ask 1 7 1 0 "a\\") opened (made 0 "a" 0x20 ∷ []) (stream 1 "" ∷ [])
+    ∷ accepts (after (makes "a" ∷ [])) (ask 1 7 1 0 "a\\") FILE_OPENED (made 0 "a" 0x20 ∷ []) (stream 1 "" ∷ [])
     (entry 2 1 1 1 7 ∷ entry 1 1 1 0x80 7 ∷ [])
-    ∷ accepts (after (makes "a" ∷ [])) (ask 1 7 1 0x40 "\\a") opened (made 0 "a" 0x20 ∷ []) (stream 1 "" ∷ [])
+    ∷ accepts (after (makes "a" ∷ [])) (ask 1 7 1 0x40 "\\a") FILE_OPENED (made 0 "a" 0x20 ∷ []) (stream 1 "" ∷ [])
     (entry 2 1 1 1 7 ∷ entry 1 1 1 0x80 7 ∷ [])
-    ∷ accepts (after (makesDirectory "d" ∷ [])) (ask 1 7 2 0x40 "d\\a") created (made 0 "d" 0x10 ∷ made 1 "a" 0x20 ∷ [])
+    ∷ accepts (after (makesDirectory "d" ∷ [])) (ask 1 7 2 0x40 "d\\a") FILE_CREATED (made 0 "d" 0x10 ∷ made 1 "a" 0x20 ∷ [])
     (ofDirectory 1 ∷ stream 2 "" ∷ [])
     (entry 2 2 2 1 7 ∷ entry 1 1 1 0x80 7 ∷ [])
     -- empty components vanish, before the last one and after it
-    ∷ accepts (after (makesDirectory "d" ∷ [])) (ask 1 7 2 0 "\\\\d\\\\\\a:s\\\\") created (made 0 "d" 0x10 ∷ made 1 "a" 0x20 ∷ [])
+    ∷ accepts (after (makesDirectory "d" ∷ [])) (ask 1 7 2 0 "\\\\d\\\\\\a:s\\\\") FILE_CREATED (made 0 "d" 0x10 ∷ made 1 "a" 0x20 ∷ [])
     (ofDirectory 1 ∷ stream 2 "" ∷ stream 2 "s" ∷ [])
     (entry 2 2 3 1 7 ∷ entry 1 1 1 0x80 7 ∷ [])
     -- a colon before the last component
@@ -128,8 +128,8 @@ namesAlone =
     ∷ validStreamName 32 (text "s\\t")
     ∷ validStreamName 32 (text "s:t")
     ∷ validStreamName 32 []
-    ∷ wellStored 32 (stored (text "a"))
-    ∷ wellStored 32 (stored [])
+    ∷ wellStored 32 (storedUnits (text "a"))
+    ∷ wellStored 32 (storedUnits [])
     ∷ wellStored 32 (replicate 32 0x61)
     ∷ wellStored 32 (replicate 31 0)
     ∷ wellStored 32 (replicate 33 0)

@@ -1,17 +1,17 @@
 -- Step 9: a new file.
 use Rattle.base.specs.Base.{ℕ, List, [], _∷_, replicate}
-use Rattle.store.specs.{StepCases.{Form.{Case, Start, refuses, accepts, leaves, ask, by, attributed, from, masked, after, fresh, but, makes, makesDirectory, marks, made, stream, ofDirectory, entry, acceptedRow, fileOf}, Statuses.{INVALID_PARAMETER, ACCESS_DENIED, MEDIA_WRITE_PROTECTED, created}}, Cases.a}
+use Rattle.store.specs.{StepCases.{Form.{Case, Start, refuses, accepts, leaves, ask, by, attributed, from, masked, after, fresh, but, makes, makesDirectory, marks, made, stream, ofDirectory, entry, acceptedRow, fileOf}, Statuses.{INVALID_PARAMETER, ACCESS_DENIED, MEDIA_WRITE_PROTECTED, FILE_CREATED}}, Cases.a}
 
 -- a new file, a new directory: from a start without files, asked with attributes, access and share; its attributes and
 -- granted access
 abbrev pub newFile : Start → ℕ → ℕ → ℕ → ℕ → ℕ → Case
 newFile start asked access share attributes granted =
-    accepts start (attributed asked (ask access share 2 0 "a")) created (made 0 "a" attributes ∷ []) (stream 1 "" ∷ [])
+    accepts start (attributed asked (ask access share 2 0 "a")) FILE_CREATED (made 0 "a" attributes ∷ []) (stream 1 "" ∷ [])
     (entry 1 1 1 granted share ∷ [])
 
 abbrev pub newDirectory : Start → ℕ → ℕ → ℕ → ℕ → ℕ → Case
 newDirectory start asked access share attributes granted =
-    accepts start (attributed asked (ask access share 2 1 "d")) created (made 0 "d" attributes ∷ []) (ofDirectory 1 ∷ [])
+    accepts start (attributed asked (ask access share 2 1 "d")) FILE_CREATED (made 0 "d" attributes ∷ []) (ofDirectory 1 ∷ [])
     (entry 1 1 1 granted share ∷ [])
 
 abbrev pub newFileCases : List Case
@@ -31,7 +31,7 @@ newFileCases =
     -- the account's mask
     ∷ refuses (from (2 ∷ 4 ∷ replicate 6 0) []) (by 1 (ask 1 7 2 0 "a")) ACCESS_DENIED
     ∷ refuses (from (2 ∷ 4 ∷ replicate 6 0) []) (ask 1 7 2 1 "d") ACCESS_DENIED
-    ∷ accepts (from (4 ∷ 2 ∷ replicate 6 0) []) (by 1 (ask 1 7 2 0 "a")) created (made 0 "a" 0x20 ∷ []) (stream 1 "" ∷ [])
+    ∷ accepts (from (4 ∷ 2 ∷ replicate 6 0) []) (by 1 (ask 1 7 2 0 "a")) FILE_CREATED (made 0 "a" 0x20 ∷ []) (stream 1 "" ∷ [])
     (entry 1 1 1 1 7 ∷ [])
     -- granted: the access asked, whatever the mask, or 0x1F01FF with 0x02000000
     ∷ newFile (masked 0x2 []) 0 0x1F01FF 0 0x20 0x1F01FF
@@ -61,10 +61,10 @@ newFileCases =
     ∷ newDirectory fresh 0x2000 1 7 0x10 1
     ∷ newDirectory fresh 0x30A7 1 7 0x1037 1
     -- a file named with a stream name gets the empty-named stream first; the open is on its own
-    ∷ accepts fresh (ask 1 7 2 0 "a:s") created (made 0 "a" 0x20 ∷ []) (stream 1 "" ∷ stream 1 "s" ∷ []) (entry 1 1 2 1 7 ∷ [])
-    ∷ accepts fresh (ask 1 7 2 0 "a::$DATA") created (made 0 "a" 0x20 ∷ []) (stream 1 "" ∷ []) (entry 1 1 1 1 7 ∷ [])
+    ∷ accepts fresh (ask 1 7 2 0 "a:s") FILE_CREATED (made 0 "a" 0x20 ∷ []) (stream 1 "" ∷ stream 1 "s" ∷ []) (entry 1 1 2 1 7 ∷ [])
+    ∷ accepts fresh (ask 1 7 2 0 "a::$DATA") FILE_CREATED (made 0 "a" 0x20 ∷ []) (stream 1 "" ∷ []) (entry 1 1 1 1 7 ∷ [])
     -- the lowest free slots, in another directory
-    ∷ accepts (after (makes "a:s" ∷ makesDirectory "d" ∷ [])) (attributed 0x2 (ask 1 0 2 0 "d\\b:t")) created
+    ∷ accepts (after (makes "a:s" ∷ makesDirectory "d" ∷ [])) (attributed 0x2 (ask 1 0 2 0 "d\\b:t")) FILE_CREATED
     (made 0 "a" 0x20 ∷ made 0 "d" 0x10 ∷ made 2 "b" 0x22 ∷ [])
     (stream 1 "" ∷ stream 1 "s" ∷ ofDirectory 2 ∷ stream 3 "" ∷ stream 3 "t" ∷ [])
     (entry 3 3 5 1 0 ∷ entry 2 2 3 0x80 7 ∷ entry 1 1 2 0x80 7 ∷ [])
@@ -74,17 +74,17 @@ newFileCases =
 abbrev pub parentCases : List Case
 parentCases =
     -- bit 0x2000 as the parent's, asked or not, and no other bit
-    leaves (but 0 0x2010 all fresh) (ask 1 7 2 0 "a") (acceptedRow created 1 1) (fileOf 1 0x2020 all)
-    ∷ leaves (but 0 0x2010 all fresh) (attributed 0x2000 (ask 1 7 2 0 "a")) (acceptedRow created 1 1) (fileOf 1 0x2020 all)
-    ∷ leaves (but 0 0x2010 all fresh) (ask 1 7 2 1 "d") (acceptedRow created 1 1) (fileOf 1 0x2010 all)
-    ∷ leaves (but 0 0x3137 all fresh) (ask 1 7 2 0 "a") (acceptedRow created 1 1) (fileOf 1 0x2020 all)
-    ∷ leaves (but 0 0x1137 all fresh) (attributed 0x2004 (ask 1 7 2 0 "a")) (acceptedRow created 1 1) (fileOf 1 0x24 all)
+    leaves (but 0 0x2010 all fresh) (ask 1 7 2 0 "a") (acceptedRow FILE_CREATED 1 1) (fileOf 1 0x2020 all)
+    ∷ leaves (but 0 0x2010 all fresh) (attributed 0x2000 (ask 1 7 2 0 "a")) (acceptedRow FILE_CREATED 1 1) (fileOf 1 0x2020 all)
+    ∷ leaves (but 0 0x2010 all fresh) (ask 1 7 2 1 "d") (acceptedRow FILE_CREATED 1 1) (fileOf 1 0x2010 all)
+    ∷ leaves (but 0 0x3137 all fresh) (ask 1 7 2 0 "a") (acceptedRow FILE_CREATED 1 1) (fileOf 1 0x2020 all)
+    ∷ leaves (but 0 0x1137 all fresh) (attributed 0x2004 (ask 1 7 2 0 "a")) (acceptedRow FILE_CREATED 1 1) (fileOf 1 0x24 all)
     -- the parent's, not the root's
-    ∷ leaves (but 1 0x2010 all below) (ask 1 7 2 0 "d\\a") (acceptedRow created 2 1) (fileOf 2 0x2020 all)
-    ∷ leaves (but 0 0x2010 all below) (ask 1 7 2 0 "d\\a") (acceptedRow created 2 1) (fileOf 2 0x20 all)
+    ∷ leaves (but 1 0x2010 all below) (ask 1 7 2 0 "d\\a") (acceptedRow FILE_CREATED 2 1) (fileOf 2 0x2020 all)
+    ∷ leaves (but 0 0x2010 all below) (ask 1 7 2 0 "d\\a") (acceptedRow FILE_CREATED 2 1) (fileOf 2 0x20 all)
     -- masks copy the parent's; the parent's mask decides, of the account
-    ∷ leaves (but 1 0x10 own below) (by 1 (ask 1 7 2 0 "d\\a")) (acceptedRow created 2 1) (fileOf 2 0x20 own)
-    ∷ leaves (but 1 0x10 own below) (by 2 (ask 1 7 2 1 "d\\e")) (acceptedRow created 2 1) (fileOf 2 0x10 own)
+    ∷ leaves (but 1 0x10 own below) (by 1 (ask 1 7 2 0 "d\\a")) (acceptedRow FILE_CREATED 2 1) (fileOf 2 0x20 own)
+    ∷ leaves (but 1 0x10 own below) (by 2 (ask 1 7 2 1 "d\\e")) (acceptedRow FILE_CREATED 2 1) (fileOf 2 0x10 own)
     ∷ refuses (but 1 0x10 own below) (ask 1 7 2 0 "d\\a") ACCESS_DENIED
     ∷ refuses (but 1 0x10 own below) (by 1 (ask 1 7 2 1 "d\\e")) ACCESS_DENIED
     ∷ []

@@ -1,7 +1,7 @@
 -- Step 12: tables, opens and handles that run out. What is kept is given, since it lies far from any short list of calls.
 use Rattle.base.specs.Base.{ℕ, _-_, Bool, true, false, List, [], _∷_, _++_, length, replicate, zeroFile, zeroLink, BareStream, zeroBare, Namespace, Data, Directory, File, Link, Open}
 use Prim.Native.String.{String}
-use Rattle.store.specs.StepCases.{Form.{Case, Start, refuses, replies, becomes, modelOf, acceptedRow, holding, ask, text, stored, stream, streamOf, ofDirectory, entry}, Statuses.{ACCESS_DENIED, MEDIA_WRITE_PROTECTED, SHARING_VIOLATION, DISK_FULL, TOO_MANY_OPENED_FILES, INSUFFICIENT_RESOURCES, opened, created, overwritten}}
+use Rattle.store.specs.StepCases.{Form.{Case, Start, refuses, replies, becomes, modelWith, acceptedRow, holding, ask, text, storedUnits, stream, streamAs, ofDirectory, entry}, Statuses.{ACCESS_DENIED, MEDIA_WRITE_PROTECTED, SHARING_VIOLATION, DISK_FULL, TOO_MANY_OPENED_FILES, INSUFFICIENT_RESOURCES, FILE_OPENED, FILE_CREATED, FILE_OVERWRITTEN}}
 
 -- so many used slots: the root and other directories, with the mask; the data file `f` is the last file, its link the
 -- first and its stream the last, where there is more than one
@@ -10,15 +10,15 @@ tables readOnly mask files links streams =
     let masks = replicate 8 mask in
     let file : File = record { «file_type» = Directory; attributes = 0x10; masks = masks } in
     let last : File = record { «file_type» = Data; attributes = 0x20; masks = masks } in
-    let toLast : Link = record { parent = record { 0 = 0 }; name = stored (text "f"); file = record { 0 = files - 1 } } in
-    let link : Link = record { parent = record { 0 = 1 }; name = stored (text "x"); file = record { 0 = 1 } } in
+    let toLast : Link = record { parent = record { 0 = 0 }; name = storedUnits (text "f"); file = record { 0 = files - 1 } } in
+    let link : Link = record { parent = record { 0 = 1 }; name = storedUnits (text "x"); file = record { 0 = 1 } } in
     record {
       readOnly = readOnly;
       files = replicate (files - 1) file ++ last ∷ replicate (128 - files) zeroFile;
       links = toLast ∷ replicate (links - 1) link ++ replicate (192 - links) zeroLink;
       streams =
-          replicate (streams - 1) (streamOf Directory 0 [])
-          ++ streamOf Data (files - 1) []
+          replicate (streams - 1) (streamAs Directory 0 [])
+          ++ streamAs Data (files - 1) []
           ∷ replicate (256 - streams) zeroBare;
     }
 
@@ -36,29 +36,29 @@ abbrev pub resourceCases : List Case
 resourceCases =
     -- fewer free file, link or stream slots than a new file adds
     refuses (holds 128 2 2 []) (ask 1 0 2 0 "a") DISK_FULL
-    ∷ replies (holds 127 2 2 []) (ask 1 0 2 0 "a") (acceptedRow created 301 1)
+    ∷ replies (holds 127 2 2 []) (ask 1 0 2 0 "a") (acceptedRow FILE_CREATED 301 1)
     ∷ refuses (holds 2 192 2 []) (ask 1 0 2 0 "a") DISK_FULL
-    ∷ replies (holds 2 191 2 []) (ask 1 0 2 0 "a") (acceptedRow created 301 1)
+    ∷ replies (holds 2 191 2 []) (ask 1 0 2 0 "a") (acceptedRow FILE_CREATED 301 1)
     ∷ refuses (holds 2 2 256 []) (ask 1 0 2 0 "a") DISK_FULL
-    ∷ replies (holds 2 2 255 []) (ask 1 0 2 0 "a") (acceptedRow created 301 1)
+    ∷ replies (holds 2 2 255 []) (ask 1 0 2 0 "a") (acceptedRow FILE_CREATED 301 1)
     -- two stream slots for a file named with a stream name, one for a new stream
     ∷ refuses (holds 2 2 255 []) (ask 1 0 2 0 "a:s") DISK_FULL
-    ∷ replies (holds 2 2 254 []) (ask 1 0 2 0 "a:s") (acceptedRow created 301 1)
+    ∷ replies (holds 2 2 254 []) (ask 1 0 2 0 "a:s") (acceptedRow FILE_CREATED 301 1)
     ∷ refuses (holds 2 2 256 []) (ask 1 0 2 0 "f:s") DISK_FULL
-    ∷ replies (holds 128 192 255 []) (ask 1 0 2 0 "f:s") (acceptedRow created 301 3)
+    ∷ replies (holds 128 192 255 []) (ask 1 0 2 0 "f:s") (acceptedRow FILE_CREATED 301 3)
     -- none for what is there
-    ∷ replies (holds 128 192 256 []) (ask 1 0 1 0 "") (acceptedRow opened 301 1)
-    ∷ replies (holds 128 192 256 []) (ask 1 0 4 0 "f") (acceptedRow overwritten 301 0x113)
+    ∷ replies (holds 128 192 256 []) (ask 1 0 1 0 "") (acceptedRow FILE_OPENED 301 1)
+    ∷ replies (holds 128 192 256 []) (ask 1 0 4 0 "f") (acceptedRow FILE_OVERWRITTEN 301 0x113)
     -- no open slot
     ∷ refuses (holds 2 2 2 (elsewhere 256)) (ask 1 0 1 0 "") TOO_MANY_OPENED_FILES
     ∷ refuses (holds 2 2 2 (elsewhere 256)) (ask 1 0 2 0 "a") TOO_MANY_OPENED_FILES
     ∷ refuses (holds 2 2 2 (elsewhere 256)) (ask 1 0 2 0 "f:s") TOO_MANY_OPENED_FILES
-    ∷ replies (holds 2 2 2 (elsewhere 255)) (ask 1 0 1 0 "") (acceptedRow opened 301 1)
-    ∷ replies (holds 2 2 2 (elsewhere 255)) (ask 1 0 2 0 "a") (acceptedRow created 301 1)
+    ∷ replies (holds 2 2 2 (elsewhere 255)) (ask 1 0 1 0 "") (acceptedRow FILE_OPENED 301 1)
+    ∷ replies (holds 2 2 2 (elsewhere 255)) (ask 1 0 2 0 "a") (acceptedRow FILE_CREATED 301 1)
     -- next handle 18,446,744,073,709,551,615
     ∷ refuses (counts 2 2 2 18446744073709551614) (ask 1 0 1 0 "") INSUFFICIENT_RESOURCES
     ∷ refuses (counts 2 2 2 18446744073709551614) (ask 1 0 2 0 "a") INSUFFICIENT_RESOURCES
-    ∷ replies (counts 2 2 2 18446744073709551613) (ask 1 0 1 0 "") (acceptedRow opened 18446744073709551614 1)
+    ∷ replies (counts 2 2 2 18446744073709551613) (ask 1 0 1 0 "") (acceptedRow FILE_OPENED 18446744073709551614 1)
     -- in this order, after everything else
     ∷ refuses (holding (tables false 0x1F01FF 128 2 2) 18446744073709551614 (elsewhere 256)) (ask 1 0 2 0 "a") DISK_FULL
     ∷ refuses (holding (tables false 0x1F01FF 2 2 256) 18446744073709551614 (elsewhere 256)) (ask 1 0 2 0 "f:s") DISK_FULL
@@ -77,7 +77,7 @@ abbrev pub file : File
 file = record { «file_type» = Data; attributes = 0x20; masks = replicate 8 0x1F01FF }
 
 abbrev pub linkTo : ℕ → String → Link
-linkTo n name = record { parent = record { 0 = 0 }; name = stored (text name); file = record { 0 = n } }
+linkTo n name = record { parent = record { 0 = 0 }; name = storedUnits (text name); file = record { 0 = n } }
 
 unfoldable pub sparse : List File → List Link → List BareStream → Namespace
 sparse files links streams =
@@ -91,26 +91,26 @@ sparse files links streams =
 abbrev pub slotCases : List Case
 slotCases =
     -- the lowest free slots, wherever they are
-    becomes (holding before 4 []) (ask 1 7 2 0 "a:s") (acceptedRow created 5 1)
-    (modelOf
+    becomes (holding before 4 []) (ask 1 7 2 0 "a:s") (acceptedRow FILE_CREATED 5 1)
+    (modelWith
     (sparse (dir ∷ file ∷ file ∷ [])
     (linkTo 1 "a" ∷ linkTo 2 "x" ∷ [])
     (stream 1 "" ∷ ofDirectory 0 ∷ stream 1 "s" ∷ stream 2 "" ∷ []))
     5
     (entry 5 1 2 1 7 ∷ []))
-    ∷ becomes (holding before 4 []) (ask 1 7 2 0 "a") (acceptedRow created 5 1)
-    (modelOf
+    ∷ becomes (holding before 4 []) (ask 1 7 2 0 "a") (acceptedRow FILE_CREATED 5 1)
+    (modelWith
     (sparse (dir ∷ file ∷ file ∷ []) (linkTo 1 "a" ∷ linkTo 2 "x" ∷ []) (stream 1 "" ∷ ofDirectory 0 ∷ zeroBare ∷ stream 2 "" ∷ []))
     5
     (entry 5 1 0 1 7 ∷ []))
-    ∷ becomes (holding before 4 []) (ask 1 7 2 0 "x:s") (acceptedRow created 5 3)
-    (modelOf
+    ∷ becomes (holding before 4 []) (ask 1 7 2 0 "x:s") (acceptedRow FILE_CREATED 5 3)
+    (modelWith
     (sparse (dir ∷ zeroFile ∷ file ∷ []) (zeroLink ∷ linkTo 2 "x" ∷ []) (stream 2 "s" ∷ ofDirectory 0 ∷ zeroBare ∷ stream 2 "" ∷ []))
     5
     (entry 5 2 0 3 7 ∷ []))
     -- a free slot is no stream of the root, and no link of it
-    ∷ becomes (holding before 4 []) (ask 1 7 1 0 "") (acceptedRow opened 5 1) (modelOf before 5 (entry 5 0 1 1 7 ∷ []))
-    ∷ becomes (holding before 4 []) (ask 1 7 1 0 "x") (acceptedRow opened 5 1) (modelOf before 5 (entry 5 2 3 1 7 ∷ []))
+    ∷ becomes (holding before 4 []) (ask 1 7 1 0 "") (acceptedRow FILE_OPENED 5 1) (modelWith before 5 (entry 5 0 1 1 7 ∷ []))
+    ∷ becomes (holding before 4 []) (ask 1 7 1 0 "x") (acceptedRow FILE_OPENED 5 1) (modelWith before 5 (entry 5 2 3 1 7 ∷ []))
     ∷ []
   where
     before : Namespace

@@ -47,14 +47,14 @@ abbrev pub INVALID_HANDLE : ℕ
 INVALID_HANDLE = 0xC0000008
 
 -- actions
-abbrev pub superseded : ℕ
-superseded = 0
+abbrev pub FILE_SUPERSEDED : ℕ
+FILE_SUPERSEDED = 0
 
-abbrev pub opened : ℕ
-opened = 1
+abbrev pub FILE_OPENED : ℕ
+FILE_OPENED = 1
 
-abbrev pub created : ℕ
-created = 2
+abbrev pub FILE_CREATED : ℕ
+FILE_CREATED = 2
 
-abbrev pub overwritten : ℕ
-overwritten = 3
+abbrev pub FILE_OVERWRITTEN : ℕ
+FILE_OVERWRITTEN = 3

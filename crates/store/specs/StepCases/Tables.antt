@@ -1,7 +1,7 @@
 -- The object store on its tables: consistency first, format, and calls in a row, with every table afterwards.
 use Rattle.base.specs.Base.{ℕ, _-_, _≡_, Bool, true, false, cond, List, [], _∷_, _++_, map, replicate, fileUsed, linkUsed, streamUsed, openUsed, zeroCounts, BareStream, bare, Unused, Directory, File, Link, Stream, Open, Tables, Step}
 use Rattle.format.specs.Format.{format}
-use Rattle.store.specs.{Store.storeView, Calls.{Call, setsReadOnly, storeStep}, Evaluate.{computes, storeRun}, Cases.sevenCounts, StepCases.{Form.{ask, attributed, folding, close, rows, fileRow, linkRow, streamRow, entryRow, replyRow, refusedRow, acceptedRow, doneRow, observed, failing, Made, made, filesMade, linksMade, stream, ofDirectory, entry, makesDirectory}, Statuses.{FILE_CORRUPT_ERROR, INVALID_PARAMETER, MEDIA_WRITE_PROTECTED, SHARING_VIOLATION, INVALID_HANDLE, superseded, opened, created}}}
+use Rattle.store.specs.{Store.storeView, Calls.{Call, setsReadOnly, storeStep}, Evaluate.{computes, storeRun}, Cases.sevenCounts, StepCases.{Form.{ask, attributed, folding, close, rows, fileRow, linkRow, streamRow, entryRow, replyRow, refusedRow, acceptedRow, doneRow, observed, failing, Made, made, filesMade, linksMade, stream, ofDirectory, entry, makesDirectory}, Statuses.{FILE_CORRUPT_ERROR, INVALID_PARAMETER, MEDIA_WRITE_PROTECTED, SHARING_VIOLATION, INVALID_HANDLE, FILE_SUPERSEDED, FILE_OPENED, FILE_CREATED}}}
 
 -- the tables as rows of numbers: every slot, or the used ones with their numbers
 unfoldable pub countedRow : Stream → List ℕ
@@ -207,15 +207,15 @@ runCases =
     ∷ close 9
     ∷ close 0
     ∷ [])
-    (acceptedRow created 1 1
-    ∷ acceptedRow opened 2 2
-    ∷ acceptedRow opened 3 0x10000
-    ∷ acceptedRow opened 4 0x80
+    (acceptedRow FILE_CREATED 1 1
+    ∷ acceptedRow FILE_OPENED 2 2
+    ∷ acceptedRow FILE_OPENED 3 0x10000
+    ∷ acceptedRow FILE_OPENED 4 0x80
     ∷ refusedRow SHARING_VIOLATION
     ∷ refusedRow SHARING_VIOLATION
     ∷ doneRow
-    ∷ acceptedRow opened 5 4
-    ∷ acceptedRow opened 6 0x1F01FF
+    ∷ acceptedRow FILE_OPENED 5 4
+    ∷ acceptedRow FILE_OPENED 6 0x1F01FF
     ∷ refusedRow INVALID_HANDLE
     ∷ refusedRow INVALID_HANDLE
     ∷ [])
@@ -244,18 +244,18 @@ runCases =
     ∷ makesDirectory "d"
     ∷ ask 1 1 2 0 "d\\b"
     ∷ [])
-    (acceptedRow created 1 0x80
-    ∷ acceptedRow superseded 2 0x10111
-    ∷ acceptedRow created 3 3
+    (acceptedRow FILE_CREATED 1 0x80
+    ∷ acceptedRow FILE_SUPERSEDED 2 0x10111
+    ∷ acceptedRow FILE_CREATED 3 3
     ∷ doneRow
     ∷ refusedRow MEDIA_WRITE_PROTECTED
-    ∷ acceptedRow opened 4 0x80
+    ∷ acceptedRow FILE_OPENED 4 0x80
     ∷ doneRow
     ∷ doneRow
     ∷ refusedRow INVALID_HANDLE
     ∷ doneRow
-    ∷ acceptedRow created 5 0x80
-    ∷ acceptedRow created 6 1
+    ∷ acceptedRow FILE_CREATED 5 0x80
+    ∷ acceptedRow FILE_CREATED 6 1
     ∷ [])
     false
     7
