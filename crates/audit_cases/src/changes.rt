@@ -15,6 +15,7 @@ use records::Stream;
 use records::StreamNo;
 use records::Volume;
 use records::constants::ALL_ACCESS;
+use records::sizes::ACCOUNTS;
 use records::sizes::FILE_SLOTS;
 use records::sizes::LINK_SLOTS;
 use records::sizes::OPEN_SLOTS;
@@ -159,6 +160,6 @@ fn volume_of(line: Line) -> Volume {
 pub fn fresh() -> Answer {
     let line = start(0);
     let rows = [open_of(line); OPEN_SLOTS];
-    let masks = [ALL_ACCESS; 8];
+    let masks = [ALL_ACCESS; ACCOUNTS];
     format::format(volume_of(line), OpenTable { rows }, masks, false)
 }
