@@ -22,4 +22,4 @@ pub use Rattle.lists.proofs.Permutations.{perm-refl, perm-eq, perm-sym, perm-le
 pub use Rattle.lists.proofs.Set.{FreeSlot, SetAt, set-cases, set-each, set-pairs, count-gained, one-before, one-added, free-stays, map-set}
 pub use Rattle.lists.proofs.Pigeonhole.{pigeonhole, least}
 pub use Rattle.lists.proofs.Keyed.{Noted, keyed, keyed-own, back-skip, back-set, front-skip, front-add}
-pub use Rattle.records.proofs.Checked.{Ends, stops, goes, refused≢passed, passed-same, refused-same, bind-passed, then-passed, bind-of, bind-refused, refuse-passed, test-passed, test-refuses, test-passes, stopped, went, ends-bind, ends-then, ends-test, ends-cond, ends-some, ends-weaker}
+pub use Rattle.records.proofs.Checked.{Ends, stops, goes, refused≢passed, passed-same, refused-same, bind-of, test-refuses, stopped, went, ends-bind, ends-test, ends-cond, ends-some, ends-weaker}

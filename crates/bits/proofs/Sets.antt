@@ -2,7 +2,7 @@
 use Prim.Native.Nat.{ℕ, zero, suc, _-_, _/_, _%_, _≤_, min, max}
 use borrow.Author.Tests.{eqb-true, eq-eqb, ne-eqb, not-false}
 use lib.{Arith.bin-ind, Bits.{bitAnd, bitOr, and-step, or-step, and-shr, or-shr, and-comm, or-comm, and-self, and-zero-r, or-zero-r, and-le-l, and-le-r, or-add-and, or-disjoint}, Dec.eqb}
-use mathlib.Core.{Path.{_≡_, refl, sym, _∙_, ap, ap₂}, Bool.{true, false, not, _||_, true≢false}, Logic.{_↔_, _≢_}}
+use mathlib.Core.{Path.{_≡_, refl, sym, _∙_, ap, ap₂}, Bool.{true, false, not, _||_}, Logic.{_↔_, _≢_}}
 use native.Mathlib.Omega.{arith}
 use Rattle.bits.specs.Bits.{within, has, without}
 
@@ -123,9 +123,6 @@ within-le a m h = omega (arith, and-le-r a m, within-iff a m .0 h)
 pub within-and-r : (a m : ℕ) → within (bitAnd a m) m ≡ true
 within-and-r a m = within-iff (bitAnd a m) m .1 (and-assoc a m m ∙ ap (bitAnd a) (and-self m))
 
-pub within-and-l : (a m : ℕ) → within (bitAnd a m) a ≡ true
-within-and-l a m = ap (λ (x : ℕ). within x a) (and-comm a m) ∙ within-and-r m a
-
 pub within-or : (a b m : ℕ) → within a m ≡ true → within b m ≡ true → within (bitOr a b) m ≡ true
 within-or a b m h k =
     within-iff (bitOr a b) m .1 (and-or a b m ∙ ap₂ bitOr (within-iff a m .0 h) (within-iff b m .0 k))
@@ -148,12 +145,6 @@ within-split a m k h e =
 pub has-zero : (m : ℕ) → has 0 m ≡ false
 has-zero m = has-iff-false 0 m .1 refl
 
-pub has-nonzero : (a m : ℕ) → has a m ≡ true → a ≢ 0
-has-nonzero a m h e = true≢false (sym h ∙ ap (λ (x : ℕ). has x m) e ∙ has-zero m)
-
-pub nonzero-has : (a m : ℕ) → within a m ≡ true → a ≢ 0 → has a m ≡ true
-nonzero-has a m h n = has-meets a m (λ e. n (sym (within-iff a m .0 h) ∙ e))
-
 some-or : (x y : ℕ) → not (eqb (bitOr x y) 0) ≡ (not (eqb x 0) || not (eqb y 0))
 some-or zero y = refl
 some-or (suc x) y = rw (ne-eqb (suc x) 0 (λ e. omega arith), ne-eqb (bitOr (suc x) y) 0 (λ e. omega (arith, or-none (suc x) y e)))
@@ -161,11 +152,6 @@ some-or (suc x) y = rw (ne-eqb (suc x) 0 (λ e. omega arith), ne-eqb (bitOr (suc
 pub has-or : (a b m : ℕ) → has (bitOr a b) m ≡ (has a m || has b m)
 unfolding has
 has-or a b m = ap (λ (x : ℕ). not (eqb x 0)) (and-or a b m) ∙ some-or (bitAnd a m) (bitAnd b m)
-
-pub has-and : (a b m : ℕ) → within m b ≡ true → has (bitAnd a b) m ≡ has a m
-unfolding has
-has-and a b m h =
-    ap (λ (x : ℕ). not (eqb x 0)) (and-assoc a b m ∙ ap (bitAnd a) (and-comm b m ∙ within-iff m b .0 h))
 
 pub has-and-none : (a b m : ℕ) → has b m ≡ false → has (bitAnd a b) m ≡ false
 has-and-none a b m e =
@@ -178,17 +164,11 @@ has-subset a b m h e = ap (λ (x : ℕ). has x m) (sym (within-iff a b .0 h)) �
 pub has-smaller : (a m k : ℕ) → within m k ≡ true → has a k ≡ false → has a m ≡ false
 has-smaller a m k h e = has-comm a m ∙ has-subset m k a h (has-comm k a ∙ e)
 
-pub has-mono : (a m k : ℕ) → within m k ≡ true → has a m ≡ true → has a k ≡ true
-has-mono a m k h e = has-meets a k (λ z. true≢false (sym e ∙ has-smaller a m k h (has-iff-false a k .1 z)))
-
 -- ---- a difference
 
 pub without-clears : (a k : ℕ) → has (without a k) k ≡ false
 unfolding without
 without-clears a k = has-iff-false (a - bitAnd a k) k .1 (less-and a k)
-
-pub has-without-within : (a m k : ℕ) → within m k ≡ true → has (without a k) m ≡ false
-has-without-within a m k h = has-smaller (without a k) m k h (without-clears a k)
 
 pub within-without : (a k : ℕ) → within (without a k) a ≡ true
 unfolding without
@@ -200,15 +180,3 @@ within-less a m k h = within-trans (without a k) a m (within-without a k) h
 pub without-none : (a k : ℕ) → has a k ≡ false → without a k ≡ a
 unfolding without
 without-none a k e = omega (arith, has-iff-false a k .0 e)
-
-pub without-zero : (a k : ℕ) → without a k ≡ 0 → within a k ≡ true
-unfolding without
-without-zero a k e = within-iff a k .1 (omega (arith, and-le-l a k))
-
-pub within-without-join : (a m k : ℕ) → within (without a k) m ≡ true → within a (bitOr m k) ≡ true
-unfolding without
-within-without-join a m k h =
-    ap (λ (x : ℕ). within x (bitOr m k)) (sym (less-or a k))
-    ∙ within-or (a - bitAnd a k) (bitAnd a k) (bitOr m k)
-    (within-trans (a - bitAnd a k) m (bitOr m k) h (within-or-l m k))
-    (within-trans (bitAnd a k) k (bitOr m k) (within-and-r a k) (within-or-r m k))

@@ -1,10 +1,10 @@
 -- What follows from consistency: used slots by their numbers; and a free stream is all zero, its counts
 -- too, since no open names it.
-use Rattle.base.{specs.Base.{ℕ, _≤_, _<_, _≡_, true, false, List, map, length, any, streamSlots, zeroStream, zeroOpen, isUsed, fileUsed, streamUsed, openUsed, BareStream, bare, bareUsed, bareAt, namespace, FileNo, StreamNo, File, Stream, Open, OpenTable, Volume}, proofs.Laws.{refl, sym, _∙_, ap, arith, List·getD-map, List·getD-eq-default, not-both, fails-iff, none-kept-of}}
+use Rattle.base.{specs.Base.{ℕ, _≤_, _<_, _≡_, true, false, List, map, length, any, zeroStream, zeroOpen, fileUsed, streamUsed, openUsed, BareStream, bare, bareUsed, bareAt, namespace, FileNo, StreamNo, File, Stream, Open, OpenTable, Volume}, proofs.Laws.{sym, _∙_, ap, arith, List·getD-map, List·getD-eq-default, not-both, fails-iff, none-kept-of}}
 use native.Mathlib.Decide.{decLt}
 use Rattle.sharing.{specs.Sharing.onStream, proofs.Counts.counts-none}
 use Rattle.tables.specs.Tables.{fileAt, streamAt}
-use Rattle.consistency.proofs.{Slots.slots-below, Numbered.stream-iff}
+use Rattle.consistency.proofs.Numbered.{stream-iff}
 use Rattle.consistency.specs.{Relations.live, Good.GoodFile, Consistent.{FilesConsistent, GoodStreamOf, StreamsConsistent, openAt, OpensConsistent, Consistent}}
 
 -- used slots by their numbers
@@ -16,11 +16,6 @@ pub stream-good : {fs : List File} {ss : List BareStream} → StreamsConsistent 
     → (s : StreamNo) → bareUsed (bareAt ss s) ≡ true → GoodStreamOf fs (bareAt ss s)
 unfolding bareAt
 stream-good c s u = c .slots .usedGood (s .0) u
-
-pub stream-below : {fs : List File} {ss : List BareStream} → StreamsConsistent fs ss
-    → (s : StreamNo) → bareUsed (bareAt ss s) ≡ true → s .0 < streamSlots
-unfolding bareAt bareUsed isUsed
-stream-below c s u = slots-below (c .slots) refl (s .0) u
 
 -- a stream, without its counts, stands at its number among the streams without theirs
 pub bare-at : (ss : List Stream) (s : StreamNo) → bareAt (map bare ss) s ≡ bare (streamAt ss s)

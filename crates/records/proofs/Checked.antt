@@ -1,4 +1,4 @@
--- A chain of steps passes exactly when each step passes: what a passed chain says of its parts.
+-- A chain of steps that may refuse: how it ends.
 use Prim.Native.Nat.{ℕ}
 use mathlib.Core.{Path.{_≡_, refl, ap}, Bool.{Bool, true, false, cond}, Option.{Option, none, some}}
 use native.Mathlib.Omega.{arith}
@@ -15,44 +15,16 @@ pub refused-same : {A : Type 0} {q r : Refusal} → Path (Checked A) (refused q)
 refused-same e = cc
 
 module _ {A B : Type 0} where
-  pub bind-passed : (e : Checked A) (f : A → Checked B) {b : B} → (e >>= f) ≡ passed b
-      → (a : A) × (e ≡ passed a) × (f a ≡ passed b)
-  unfolding _>>=_
-  bind-passed (refused s) f h = absurd (refused≢passed h)
-  bind-passed (passed a) f h = (a, refl, h)
-
-  pub then-passed : (e : Checked A) (g : Checked B) {b : B} → (e >> g) ≡ passed b
-      → (a : A) × (e ≡ passed a) × (g ≡ passed b)
-  unfolding _>>_
-  then-passed (refused s) g h = absurd (refused≢passed h)
-  then-passed (passed a) g h = (a, refl, h)
-
   -- a chain whose first step is known
   pub bind-of : {e : Checked A} (f : A → Checked B) {a : A} → e ≡ passed a → (e >>= f) ≡ f a
   unfolding _>>=_
   bind-of f h = ap (λ (c : Checked A). c >>= f) h
 
-  pub bind-refused : {e : Checked A} (f : A → Checked B) {r : Refusal} → e ≡ refused r → (e >>= f) ≡ refused r
-  unfolding _>>=_
-  bind-refused f h = ap (λ (c : Checked A). c >>= f) h
-
-pub refuse-passed : (b : Bool) (s : Status) {u : Unit {0}} → refuseIf b s ≡ passed u → b ≡ false
-unfolding refuseIf
-refuse-passed true s h = absurd (refused≢passed h)
-refuse-passed false s h = refl
-
 -- a test before the rest of a chain
 module _ {B : Type 0} where
-  pub test-passed : (b : Bool) (s : Status) (g : Checked B) {a : B} → (refuseIf b s >> g) ≡ passed a → (b ≡ false) × (g ≡ passed a)
-  test-passed b s g h = let q = then-passed (refuseIf b s) g h in (refuse-passed b s (q .1), q .2)
-
   pub test-refuses : {b : Bool} (s : Status) (g : Checked B) → b ≡ true → (refuseIf b s >> g) ≡ refuse s
   unfolding refuseIf _>>_
   test-refuses s g e = ap (λ (b : Bool). refuseIf b s >> g) e
-
-  pub test-passes : {b : Bool} (s : Status) (g : Checked B) → b ≡ false → (refuseIf b s >> g) ≡ g
-  unfolding refuseIf _>>_
-  test-passes s g e = ap (λ (b : Bool). refuseIf b s >> g) e
 
 -- how a chain of steps ends: what its refusals satisfy, and what its passed value does
 pub data Ends {A : Type 0} (Q : Refusal → Type 0) (P : A → Type 0) : Checked A → Type 0 where
@@ -72,12 +44,6 @@ module _ {A : Type 0} {Q : Refusal → Type 0} {P : A → Type 0} where
   unfolding _>>=_
   ends-bind (stops q) k = stops q
   ends-bind (goes {a} p) k = k a p
-
-  pub ends-then : {B : Type 0} {R : B → Type 0} {e : Checked A} {g : Checked B} → Ends Q P e
-      → ((a : A) → P a → Ends Q R g) → Ends Q R (e >> g)
-  unfolding _>>_
-  ends-then (stops q) k = stops q
-  ends-then (goes {a} p) k = k a p
 
   -- a test, and the rest where it does not refuse
   pub ends-test : (b : Bool) (s : Status) {g : Checked A} → Q (record { status = s }) → (b ≡ false → Ends Q P g)
