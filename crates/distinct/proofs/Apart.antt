@@ -1,4 +1,4 @@
--- No key stands before its place twice: the keys are distinct.
+-- Where no key stands already before its own place, the keys are distinct.
 use Rattle.base.{specs.Base.{ℕ, zero, suc, _+_, _≤_, _<_, _≡_, true, false, List, length, getD, eqb, keep, pairs}, proofs.Laws.{ℕ-discrete, refl, ⊎-elim, arith, eq-eqb, ne-eqb, eqb-true, not-both, refuted, not-is, not-isn't, or-cases, or-neither, pairs-keep-at, pairs-keep-of}}
 use Rattle.distinct.specs.{Keys.{isKey, differ}, Buckets.found}
 
@@ -12,7 +12,7 @@ unfolding isKey
 no-key k e = not-isn't (eq-eqb k 0 e)
 
 module _ (keys : List ℕ) where
-  -- of the keys before place i none stands before another of its value
+  -- of the keys before place i, none stands already before its own place
   abbrev pub Apart : ℕ → Type 0
   Apart i = (j : ℕ) → j < i → isKey (getD keys j 0) ≡ true → found keys (getD keys j 0) j ≡ false
 
@@ -50,7 +50,8 @@ module _ (keys : List ℕ) where
         pairs-keep-of isKey differ 0 keys
         (λ j k b c u v. not-is (found-none (getD keys k 0) k (a k (omega arith) v) j b))
 
-    pub distinct-not : i < length keys → isKey (getD keys i 0) ≡ true → found keys (getD keys i 0) i ≡ true → pairs differ (keep isKey keys) ≡ false
+    pub distinct-not : i < length keys → isKey (getD keys i 0) ≡ true → found keys (getD keys i 0) i ≡ true
+        → pairs differ (keep isKey keys) ≡ false
     unfolding differ
     distinct-not b u f =
         let q = found-some (getD keys i 0) i f in

@@ -48,20 +48,25 @@ module _ {keys head next : List ℕ} {i : ℕ} (filled : Filled keys head next i
   abbrev here : ℕ
   here = getD keys i 0
 
+  -- a bucket that gets no key here keeps its last one
+  kept : (h : ℕ) → (isKey here ≡ true → bucketOf here ≡ h → ⊥) → last keys h i ≡ last keys h (i + 1)
+  kept h n =
+      let other = refuted (inBucket h here) (λ q. n (and-left (isKey here) _ q) (eqb-true (bucketOf here) h (and-right (isKey here) _ q))) in
+      rw add-one (sym (last-past keys h i other))
+
   -- no key here
   pub fill-past : isKey here ≡ false → Filled keys head next (i + 1)
   fill-past n =
       record {
         headSize = filled .headSize;
         nextSize = filled .nextSize;
-        heads = λ h b. filled .heads h b ∙ rw add-one (sym (last-past keys h i (refuted (inBucket h here) (λ q. not-both (and-left (isKey here) _ q) n))));
-        linked = λ m b u.
-            filled .linked m
-            (let d : m ≡ i → ⊥ = λ e. not-both u (rw e n) in omega arith) u;
+        heads = λ h b. filled .heads h b ∙ kept h (λ u _. not-both u n);
+        linked = λ m b u. filled .linked m (let d : m ≡ i → ⊥ = λ e. not-both u (rw e n) in omega arith) u;
       }
 
-  -- a key: its bucket's head, which it points to, becomes its own place plus one
-  pub fill-key : isKey here ≡ true → i < held → Filled keys (set head (bucketOf here) (i + 1)) (set next i (getD head (bucketOf here) 0)) (i + 1)
+  -- a key: it points to its bucket's head, which becomes its own place plus one
+  pub fill-key : isKey here ≡ true → i < held
+      → Filled keys (set head (bucketOf here) (i + 1)) (set next i (getD head (bucketOf here) 0)) (i + 1)
   fill-key u b =
       let g = bucketOf here in
       let w = bucket-below here in
@@ -70,10 +75,7 @@ module _ {keys head next : List ℕ} {i : ℕ} (filled : Filled keys head next i
         nextSize = length-set next i (getD head g 0) ∙ filled .nextSize;
         heads = λ h l.
             ⊎-elim (λ q. q .1 ∙ rw (add-one, q .0) (sym (last-here keys g i (own-bucket here u))))
-            (λ q.
-            q .1
-            ∙ filled .heads h l
-            ∙ rw add-one (sym (last-past keys h i (refuted (inBucket h here) (λ p. q .0 (sym (eqb-true g h (and-right (isKey here) _ p))))))))
+            (λ q. q .1 ∙ filled .heads h l ∙ kept h (λ _ p. q .0 (sym p)))
             (set-cases head g h (i + 1) 0 (omega (arith, filled .headSize)));
         linked = λ m l v.
             ⊎-elim (λ q. q .1 ∙ filled .heads g w ∙ rw (q .0))

@@ -1,5 +1,5 @@
 -- `distinct::distinct_by_buckets` meets its contract. The invariant: the arrays hold the keys before place i, none of
--- which stands before its own place.
+-- which stands already before its own place.
 use Rattle.base.{specs.Base.{_-_, _≡_, getD, length}, proofs.Laws.{sym, _∙_, arith, needs, ⊎-elim, not-both}}
 use Rattle.distinct.specs.Buckets.{found, Chain}
 use Rattle.distinct.proofs.{Apart.{Apart, is-key, no-key, apart-none, apart-past, distinct-all, distinct-not}, Filled.{Filled, fill-none, fill-past, fill-key, chain, chain-finds}, distinct_by_buckets.Statement.statement}

@@ -1,4 +1,4 @@
--- `distinct::distinct_by_pairs` meets its contract. The invariant: no key before `place` stands before its own place.
+-- `distinct::distinct_by_pairs` meets its contract. The invariant: no key before `place` stands already before its own place.
 use Rattle.base.{specs.Base.{_-_, _≡_, false, getD, length}, proofs.Laws.{sym, _∙_, arith, needs, ⊎-elim, not-both}}
 use Rattle.distinct.specs.Buckets.{found}
 use Rattle.distinct.proofs.{Apart.{Apart, is-key, no-key, apart-none, apart-past, distinct-all, distinct-not}, distinct_by_pairs.Statement.statement}
