@@ -1,0 +1,4 @@
+pub mod Chains
+pub mod Filled
+pub mod Apart
+pub mod Tells
