@@ -124,3 +124,8 @@ written {c = c} {d = d} {at = at} {p = p} f law bs x {m} l h w =
     ∙ rw (add-zero at) at (f .writes bs 0 (d .encode x) l (omega arith))
     ∙ ap (p (c .decode bs))
     (ap (d .decode) (sets-all (part bs at (d .size)) (d .encode x) (part-length bs at (d .size) (omega arith) ∙ sym n)) ∙ law .back x h)
+
+-- the same place by another sum
+pub moved : {A B : Type 0} {c : Codec A} {d : Codec B} {at at′ : ℕ} {g : A → B} {p : A → B → A} → at ≡ at′
+    → Field c d at g p → Field c d at′ g p
+moved {c = c} {d = d} {g = g} {p = p} e f = subst (λ (k : ℕ). Field c d k g p) e f

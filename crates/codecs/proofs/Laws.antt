@@ -66,6 +66,12 @@ via-lawful {c = c} to from there again inward outward C =
       fits = λ bs b l. outward (c .decode bs) (C .fits bs b l);
     }
 
+-- a row has as many values as it is read for
+pub row-count : {A : Type 0} (c : Codec A) (n : ℕ) (bs : List ℕ) → length (decodeRow c n bs) ≡ n
+unfolding decodeRow
+row-count c zero bs = refl
+row-count c (suc n) bs = ap suc (row-count c n (drop (c .size) bs))
+
 module _ {A : Type 0} {c : Codec A} {F : A → Type 0} (C : Lawful c F) where
   row-long : (xs : List A) → Each F xs → length (encodeRow c xs) ≡ length xs * c .size
   unfolding encodeRow Each
@@ -103,18 +109,13 @@ module _ {A : Type 0} {c : Codec A} {F : A → Type 0} (C : Lawful c F) where
         row-fits n (drop (c .size) bs) (drop-bytes (c .size) bs b) (rw length-drop (omega arith)),
       )
 
-  row-count : (n : ℕ) (bs : List ℕ) → length (decodeRow c n bs) ≡ n
-  unfolding decodeRow
-  row-count zero bs = refl
-  row-count (suc n) bs = ap suc (row-count n (drop (c .size) bs))
-
   pub row-lawful : (n : ℕ) → Lawful (row c n) (RowFits n F)
   row-lawful n =
       record {
         long = λ xs h. row-long xs (h .each) ∙ ap (λ (k : ℕ). k * c .size) (h .count);
         back = λ xs h. subst (λ (k : ℕ). decodeRow c k (encodeRow c xs) ≡ xs) (h .count) (row-back xs (h .each));
         forth = row-forth n;
-        fits = λ bs b l. record { count = row-count n bs; each = row-fits n bs b l };
+        fits = λ bs b l. record { count = row-count c n bs; each = row-fits n bs b l };
       }
 
 -- two lists of bytes that stand for one value are equal

@@ -2,3 +2,4 @@
 pub mod Bytes
 pub mod Laws
 pub mod Fields
+pub mod Rows

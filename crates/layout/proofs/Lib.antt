@@ -1,0 +1,4 @@
+-- The laws of the tables in bytes.
+pub mod Records
+pub mod Tables
+pub mod Fields

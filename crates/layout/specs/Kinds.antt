@@ -1,0 +1,24 @@
+-- The numbers of a kind and of the read-only mark.
+use Prim.Native.Nat.{ℕ, zero, suc}
+use mathlib.Core.Bool.{Bool, true, false}
+use Rattle.records.specs.declared.FileType.{FileType}
+use Rattle.records.specs.declared.FileType.the-variants.{Unused, Data, Directory}
+
+unfoldable pub kindNumber : FileType → ℕ
+kindNumber Unused = 0
+kindNumber Data = 1
+kindNumber Directory = 2
+
+-- total: bytes with a larger number stand for no tables
+unfoldable pub kindOf : ℕ → FileType
+kindOf zero = Unused
+kindOf (suc zero) = Data
+kindOf (suc (suc n)) = Directory
+
+unfoldable pub markNumber : Bool → ℕ
+markNumber false = 0
+markNumber true = 1
+
+unfoldable pub markOf : ℕ → Bool
+markOf zero = false
+markOf (suc n) = true

@@ -1,0 +1,92 @@
+-- The tables with one record or field put; past a table's end nothing is.
+use Prim.Native.Nat.{ℕ}
+use mathlib.Core.Bool.{Bool}
+use lib.ListN.{set}
+use Rattle.records.specs.State.{Tables}
+use Rattle.records.specs.declared.FileNo.{FileNo}
+use Rattle.records.specs.declared.LinkNo.{LinkNo}
+use Rattle.records.specs.declared.StreamNo.{StreamNo}
+use Rattle.records.specs.declared.Handle.{Handle}
+use Rattle.records.specs.declared.File.{File}
+use Rattle.records.specs.declared.Link.{Link}
+use Rattle.records.specs.declared.Stream.{Stream}
+use Rattle.records.specs.declared.Open.{Open}
+use Rattle.records.specs.declared.Volume.{Volume}
+
+abbrev pub putMark : Tables → Bool → Tables
+putMark t m =
+    let v = t .volume in
+    record {
+      volume =
+          record {
+            «read_only» = m;
+            «next_handle» = v .«next_handle»;
+            files = v .files;
+            links = v .links;
+            streams = v .streams;
+          };
+      opens = t .opens;
+    }
+
+abbrev pub putNext : Tables → Handle → Tables
+putNext t h =
+    let v = t .volume in
+    record {
+      volume =
+          record {
+            «read_only» = v .«read_only»;
+            «next_handle» = h;
+            files = v .files;
+            links = v .links;
+            streams = v .streams;
+          };
+      opens = t .opens;
+    }
+
+abbrev pub putFile : Tables → FileNo → File → Tables
+putFile t n f =
+    let v = t .volume in
+    record {
+      volume =
+          record {
+            «read_only» = v .«read_only»;
+            «next_handle» = v .«next_handle»;
+            files = set (v .files) (n .0) f;
+            links = v .links;
+            streams = v .streams;
+          };
+      opens = t .opens;
+    }
+
+abbrev pub putLink : Tables → LinkNo → Link → Tables
+putLink t n l =
+    let v = t .volume in
+    record {
+      volume =
+          record {
+            «read_only» = v .«read_only»;
+            «next_handle» = v .«next_handle»;
+            files = v .files;
+            links = set (v .links) (n .0) l;
+            streams = v .streams;
+          };
+      opens = t .opens;
+    }
+
+abbrev pub putStream : Tables → StreamNo → Stream → Tables
+putStream t n s =
+    let v = t .volume in
+    record {
+      volume =
+          record {
+            «read_only» = v .«read_only»;
+            «next_handle» = v .«next_handle»;
+            files = v .files;
+            links = v .links;
+            streams = set (v .streams) (n .0) s;
+          };
+      opens = t .opens;
+    }
+
+abbrev pub putOpen : Tables → ℕ → Open → Tables
+putOpen t n o = record { volume = t .volume; opens = record { rows = set (t .opens .rows) n o } }

@@ -1,0 +1,34 @@
+// The tables in bytes (docs/LAYOUT.md): where each field stands, what the bytes stand for, and the sizes and places by
+// name for the code above. Nothing is read or written here.
+use records::sizes::ACCOUNTS;
+use records::sizes::FILE_NAME_LIMIT;
+use records::sizes::FILE_SLOTS;
+use records::sizes::LINK_SLOTS;
+use records::sizes::OPEN_SLOTS;
+use records::sizes::STREAM_NAME_LIMIT;
+use records::sizes::STREAM_SLOTS;
+
+// bytes of a record
+pub const FILE_SIZE: usize = 2 + 4 + 4 * ACCOUNTS;
+
+pub const LINK_SIZE: usize = 2 + 2 + 2 * FILE_NAME_LIMIT;
+
+pub const STREAM_SIZE: usize = 2 + 2 + 2 * STREAM_NAME_LIMIT + 2 * 7;
+
+pub const OPEN_SIZE: usize = 8 + 2 + 2 + 4 + 4;
+
+// places
+pub const MARK_AT: usize = 0;
+
+pub const NEXT_AT: usize = 2;
+
+pub const FILES_AT: usize = 10;
+
+pub const LINKS_AT: usize = FILES_AT + FILE_SIZE * FILE_SLOTS;
+
+pub const STREAMS_AT: usize = LINKS_AT + LINK_SIZE * LINK_SLOTS;
+
+pub const OPENS_AT: usize = STREAMS_AT + STREAM_SIZE * STREAM_SLOTS;
+
+// all of it
+pub const TABLES_SIZE: usize = OPENS_AT + OPEN_SIZE * OPEN_SLOTS;
