@@ -4,13 +4,14 @@ use mathlib.Core.Path.{_≡_, refl, sym, _∙_, ap, subst}
 use mathlib.Core.List.{List, [], _∷_}
 use native.Mathlib.Nat.{mul-le-mul-left, mul-suc, mul-zero, add-zero, zero-add, add-assoc, add-comm}
 use native.Mathlib.Omega.{arith}
-use lib.ListN.{length, take, drop, set, getD, length-drop}
-use lib.Seq.{sets, drop-drop, length-take-le, take-all}
+use lib.ListN.{length, take, drop, set, getD, length-drop, List·getD-eq-default}
+use lib.Seq.{sets, drop-drop, length-take-le, take-all, set-out}
 use Rattle.little_endian.specs.LittleEndian.{part}
 use Rattle.little_endian.specs.Writes.{Wrote}
 use Rattle.little_endian.proofs.Parts.{take-sets-past, take-sets-within, drop-sets-within, drop-sets-past, sets-all, take-drop-take}
 use Rattle.codecs.specs.Codec.{Codec, _⊗_, via, row, decodeRow, Lawful}
 use Rattle.codecs.specs.Field.{Field}
+use Rattle.codecs.proofs.Laws.{row-count}
 
 pub part-length : (l : List ℕ) (at n : ℕ) → at + n ≤ length l → length (part l at n) ≡ n
 part-length l at n h = length-take-le n (drop at l) (rw length-drop (omega arith))
@@ -129,3 +130,10 @@ written {c = c} {d = d} {at = at} {p = p} f law bs x {m} l h w =
 pub moved : {A B : Type 0} {c : Codec A} {d : Codec B} {at at′ : ℕ} {g : A → B} {p : A → B → A} → at ≡ at′
     → Field c d at g p → Field c d at′ g p
 moved {c = c} {d = d} {g = g} {p = p} e f = subst (λ (k : ℕ). Field c d k g p) e f
+
+-- past a row's end stands the default, and nothing is set
+pub row-past : {A : Type 0} (c : Codec A) (z : A) (n k : ℕ) (bs : List ℕ) → n ≤ k → getD (decodeRow c n bs) k z ≡ z
+row-past c z n k bs h = List·getD-eq-default (decodeRow c n bs) z {n = k} (rw row-count h)
+
+pub row-out : {A : Type 0} (c : Codec A) (x : A) (n k : ℕ) (bs : List ℕ) → n ≤ k → set (decodeRow c n bs) k x ≡ decodeRow c n bs
+row-out c x n k bs h = set-out (decodeRow c n bs) k x (rw row-count h)

@@ -5,7 +5,7 @@ use mathlib.Core.Bool.{Bool, true, and-eq-true-iff}
 use mathlib.Core.List.{List, [], _∷_, _++_}
 use native.Mathlib.Nat.{suc-mul}
 use native.Mathlib.Omega.{arith}
-use lib.ListN.{length, take, drop, length-append, length-take, length-drop, take-append-drop}
+use lib.ListN.{length, getD, take, drop, length-append, length-take, length-drop, take-append-drop}
 use lib.Seq.{take-at, drop-at, length-take-le}
 use borrow.Author.Tests.{ltb-true}
 use Rattle.little_endian.specs.LittleEndian.{fromBytes, toBytes, Bytes}
@@ -65,6 +65,12 @@ via-lawful {c = c} to from there again inward outward C =
       forth = λ bs b l s. ap (c .encode) (again (c .decode bs)) ∙ C .forth bs b l s;
       fits = λ bs b l. outward (c .decode bs) (C .fits bs b l);
     }
+
+-- what each element has by its place
+pub each-from : {A : Type 0} (F : A → Type 0) (z : A) (xs : List A) → ((i : ℕ) → i < length xs → F (getD xs i z)) → Each F xs
+unfolding Each
+each-from F z [] h = tt
+each-from F z (x ∷ xs) h = (h 0 (omega arith), each-from F z xs (λ i l. h (suc i) (omega arith)))
 
 -- a row has as many values as it is read for
 pub row-count : {A : Type 0} (c : Codec A) (n : ℕ) (bs : List ℕ) → length (decodeRow c n bs) ≡ n

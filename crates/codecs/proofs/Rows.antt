@@ -53,6 +53,11 @@ module _ (w : ℕ) where
   encode-length [] = omega arith
   encode-length (x ∷ xs) = rw (length-append, toBytes-length, encode-length xs, mul-suc) (omega arith)
 
+  -- a row written, and something after it
+  pub row-after : (xs : List ℕ) {l m o ys : List ℕ} {at at′ : ℕ} → at′ ≡ at + w * length xs
+      → Wrote l at (encodeRow (number w) xs) m → Wrote m at′ ys o → Wrote l at (encodeRow (number w) xs ++ ys) o
+  row-after xs e a b = then a (rw (encode-length xs, ← e) b)
+
   -- a loop that writes has written the first i values
   pub write-turn : {l m o : List ℕ} (at i : ℕ) (xs : List ℕ) → i < length xs → Wrote l at (encodeRow (number w) (take i xs)) m
       → Wrote m (at + w * i) (toBytes w (getD xs i 0)) o → Wrote l at (encodeRow (number w) (take (suc i) xs)) o

@@ -2,3 +2,6 @@
 pub mod Records
 pub mod Tables
 pub mod Fields
+pub mod Typed
+pub mod Parts
+pub mod InPlace

@@ -1,5 +1,6 @@
 -- The tables in bytes: the volume's mark and next handle, then its files, links and streams, then the opens.
-use Prim.Native.Nat.{ℕ, _+_}
+use Prim.Native.Nat.{ℕ, _+_, _-_}
+use mathlib.Core.Path.{_≡_}
 use mathlib.Core.Bool.{Bool, _&&_}
 use mathlib.Core.List.{List}
 use lib.Dec.{eqb}
@@ -12,7 +13,7 @@ use Rattle.records.specs.declared.File.{File}
 use Rattle.records.specs.declared.Link.{Link}
 use Rattle.records.specs.declared.Stream.{Stream}
 use Rattle.records.specs.declared.Open.{Open}
-use Rattle.layout.specs.Records.{markCodec, handleCodec, fileCodec, linkCodec, streamCodec, openCodec}
+use Rattle.layout.specs.Records.{markCodec, handleCodec, fileCodec, linkCodec, countsCodec, streamCodec, openCodec}
 
 -- the tables as the sequence of their parts, and back
 abbrev pub Sequence : Type 0
@@ -86,6 +87,10 @@ streamsAt = linksAt + linksCodec .size
 abbrev pub opensAt : ℕ
 opensAt = streamsAt + streamsCodec .size
 
+-- the counts' place in a stream
+abbrev pub countsIn : ℕ
+countsIn = streamSize - countsCodec .size
+
 -- the bytes of tables
 unfoldable pub encode : Tables → List ℕ
 encode t = tablesCodec .encode t
@@ -97,3 +102,8 @@ decode bs = tablesCodec .decode bs
 -- whether they stand for tables at all: as many bytes, and marks and kinds that there are
 unfoldable pub standsForTables : List ℕ → Bool
 standsForTables bs = eqb (length bs) tablesSize && tablesCodec .stands bs
+
+-- bytes l changed to bytes m that stand for the tables t: as many, and they still stand for tables
+pub record Changed (l m : List ℕ) (t : Tables) : Type 0 where
+  pub is : decode m ≡ t
+  pub long : length m ≡ tablesSize

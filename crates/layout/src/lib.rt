@@ -13,7 +13,10 @@ pub const FILE_SIZE: usize = 2 + 4 + 4 * ACCOUNTS;
 
 pub const LINK_SIZE: usize = 2 + 2 + 2 * FILE_NAME_LIMIT;
 
-pub const STREAM_SIZE: usize = 2 + 2 + 2 * STREAM_NAME_LIMIT + 2 * 7;
+// the counts' place in a stream
+pub const COUNTS_IN: usize = 2 + 2 + 2 * STREAM_NAME_LIMIT;
+
+pub const STREAM_SIZE: usize = COUNTS_IN + 2 * 7;
 
 pub const OPEN_SIZE: usize = 8 + 2 + 2 + 4 + 4;
 

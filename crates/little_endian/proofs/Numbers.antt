@@ -91,3 +91,8 @@ halves {l} {k} {o} at n m x p a b =
     let e : toBytes (n + m) x ≡ toBytes n lo ++ toBytes m hi =
     ap (toBytes (n + m)) (sym (mod-add-div x (256 ^ n))) ∙ to-sum n m lo hi (mod-lt x p) in
     rw e (then a (rw (toBytes-length n lo) b))
+
+-- a number written, and something after it
+pub after : (w x : ℕ) {l k o ys : List ℕ} {at at′ : ℕ} → at′ ≡ at + w → Wrote l at (toBytes w x) k → Wrote k at′ ys o
+    → Wrote l at (toBytes w x ++ ys) o
+after w x {at = at} e a b = then a (rw (toBytes-length w x, ← e) b)

@@ -1,11 +1,11 @@
 -- Parts of a list before, after and inside a write, and writes side by side.
-use Prim.Native.Nat.{ℕ, zero, suc, _+_, _*_, _-_, _<_, _≤_}
+use Prim.Native.Nat.{ℕ, zero, suc, _+_, _-_, _<_, _≤_, min}
 use mathlib.Core.Path.{_≡_, refl, sym, _∙_, ap}
 use mathlib.Core.List.{List, [], _∷_, _++_, append-nil}
 use native.Mathlib.Omega.{arith}
-use native.Mathlib.Nat.{add-suc, suc-add, add-zero, zero-add}
+use native.Mathlib.Nat.{add-suc, add-zero, zero-min, min-zero, suc-min-suc, sub-zero, zero-sub, suc-sub-suc}
 use lib.ListN.{length, getD, take, drop, set, length-set, drop-of-length-le}
-use lib.Seq.{sets, sets-eq, take-set-le, take-set-lt, drop-set-lt, drop-set-add, take-take, drop-drop}
+use lib.Seq.{sets, sets-eq, take-set-le, take-set-lt, drop-set-lt, drop-set-add, take-take, take-nil}
 use Rattle.little_endian.specs.LittleEndian.{part}
 use Rattle.little_endian.specs.Writes.{Wrote}
 
@@ -57,6 +57,19 @@ module _ {A : Type 0} where
   take-drop-take n (suc k) zero l h = absurd (let z : ⊥ = omega arith in z)
   take-drop-take n (suc k) (suc m) [] h = refl
   take-drop-take n (suc k) (suc m) (x ∷ l) h = take-drop-take n k m l (omega arith)
+
+  -- takes and drops of a part, as numbers
+  pub take-min : (n m : ℕ) (l : List A) → take n (take m l) ≡ take (min n m) l
+  take-min zero m l = rw zero-min
+  take-min (suc n) zero l = rw min-zero
+  take-min (suc n) (suc m) [] = sym (take-nil (min (suc n) (suc m)))
+  take-min (suc n) (suc m) (x ∷ l) = rw suc-min-suc (ap {B = List A} (λ r. x ∷ r) (take-min n m l))
+
+  pub drop-take : (k m : ℕ) (l : List A) → drop k (take m l) ≡ take (m - k) (drop k l)
+  drop-take zero m l = rw sub-zero
+  drop-take (suc k) zero l = rw zero-sub
+  drop-take (suc k) (suc m) [] = sym (take-nil (suc m - suc k))
+  drop-take (suc k) (suc m) (x ∷ l) = rw suc-sub-suc (drop-take k m l)
 
 -- two writes side by side are one
 pub then : {l m o : List ℕ} {at : ℕ} {xs ys : List ℕ} → Wrote l at xs m → Wrote m (at + length xs) ys o → Wrote l at (xs ++ ys) o

@@ -1,0 +1,2 @@
+-- Laws that belong to no single function.
+pub mod Tests

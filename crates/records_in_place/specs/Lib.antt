@@ -1,0 +1,1 @@
+-- Nothing of its own: the contracts cite the layout and the tables.
