@@ -7,7 +7,7 @@ use native.Mathlib.Nat.{suc-mul}
 use native.Mathlib.Omega.{arith}
 use lib.ListN.{length, getD, take, drop, length-append, length-take, length-drop, take-append-drop}
 use lib.Seq.{take-at, drop-at, length-take-le}
-use borrow.Author.Tests.{ltb-true}
+use borrow.Author.Tests.{ltb-true, lt-ltb}
 use Rattle.little_endian.specs.LittleEndian.{fromBytes, toBytes, Bytes}
 use Rattle.little_endian.proofs.Numbers.{from-to, to-from, from-lt, toBytes-length}
 use Rattle.codecs.specs.Codec.{Codec, number, cases, _⊗_, via, row, encodeRow, decodeRow, rowStands, Each, Below, RowFits, Lawful}
@@ -19,6 +19,7 @@ number-lawful w =
       long = λ x h. toBytes-length w x;
       back = λ x h. from-to w x h;
       forth = λ bs b l s. subst (λ (n : ℕ). toBytes n (fromBytes bs) ≡ bs) l (to-from bs b);
+      stand = λ x h. refl;
       fits = λ bs b l. subst (λ (n : ℕ). fromBytes bs < 256 ^ n) l (from-lt bs b);
     }
 
@@ -31,6 +32,7 @@ cases-lawful n to from few small there again =
       back = λ x h. ap to (from-to 2 (from x) (let s = small x in omega arith)) ∙ there x;
       forth = λ bs b l s.
           ap (toBytes 2) (again (fromBytes bs) (ltb-true _ _ s)) ∙ number-lawful 2 .forth bs b l refl;
+      stand = λ x h. rw (from-to 2 (from x) (let s = small x in omega arith)) (lt-ltb _ _ (small x));
       fits = λ bs b l. tt;
     }
 
@@ -49,6 +51,10 @@ module _ {A B : Type 0} {c : Codec A} {d : Codec B} {F : A → Type 0} {G : B �
             (C .forth (take (c .size) bs) (take-bytes (c .size) bs b) (length-take-le (c .size) bs (omega arith)) (s′ .0))
             (D .forth (drop (c .size) bs) (drop-bytes (c .size) bs b) (rw length-drop (omega arith)) (s′ .1))
             ∙ take-append-drop (c .size) bs;
+        stand = λ p h.
+            let l = C .long (p .0) (h .0) in
+            rw (take-at (c .encode (p .0)) (d .encode (p .1)) (c .size) l, drop-at (c .encode (p .0)) (d .encode (p .1)) (c .size) l)
+            (and-eq-true-iff _ _ .1 (C .stand (p .0) (h .0), D .stand (p .1) (h .1)));
         fits = λ bs b l. (
           C .fits (take (c .size) bs) (take-bytes (c .size) bs b) (length-take-le (c .size) bs (omega arith)),
           D .fits (drop (c .size) bs) (drop-bytes (c .size) bs b) (rw length-drop (omega arith)),
@@ -63,6 +69,7 @@ via-lawful {c = c} to from there again inward outward C =
       long = λ b h. C .long (from b) (inward b h);
       back = λ b h. ap to (C .back (from b) (inward b h)) ∙ there b;
       forth = λ bs b l s. ap (c .encode) (again (c .decode bs)) ∙ C .forth bs b l s;
+      stand = λ b h. C .stand (from b) (inward b h);
       fits = λ bs b l. outward (c .decode bs) (C .fits bs b l);
     }
 
@@ -93,6 +100,14 @@ module _ {A : Type 0} {c : Codec A} {F : A → Type 0} (C : Lawful c F) where
       rw (take-at (c .encode x) (encodeRow c xs) (c .size) l, drop-at (c .encode x) (encodeRow c xs) (c .size) l)
       (ap₂ {C = List A} (λ y ys. y ∷ ys) (C .back x (h .0)) (row-back xs (h .1)))
 
+  row-stand : (xs : List A) → Each F xs → rowStands c (length xs) (encodeRow c xs) ≡ true
+  unfolding encodeRow rowStands Each
+  row-stand [] h = refl
+  row-stand (x ∷ xs) h =
+      let l = C .long x (h .0) in
+      rw (take-at (c .encode x) (encodeRow c xs) (c .size) l, drop-at (c .encode x) (encodeRow c xs) (c .size) l)
+      (and-eq-true-iff _ _ .1 (C .stand x (h .0), row-stand xs (h .1)))
+
   row-forth : (n : ℕ) (bs : List ℕ) → Bytes bs → length bs ≡ n * c .size → rowStands c n bs ≡ true
       → encodeRow c (decodeRow c n bs) ≡ bs
   unfolding encodeRow decodeRow rowStands
@@ -121,6 +136,7 @@ module _ {A : Type 0} {c : Codec A} {F : A → Type 0} (C : Lawful c F) where
         long = λ xs h. row-long xs (h .each) ∙ ap (λ (k : ℕ). k * c .size) (h .count);
         back = λ xs h. subst (λ (k : ℕ). decodeRow c k (encodeRow c xs) ≡ xs) (h .count) (row-back xs (h .each));
         forth = row-forth n;
+        stand = λ xs h. subst (λ (k : ℕ). rowStands c k (encodeRow c xs) ≡ true) (h .count) (row-stand xs (h .each));
         fits = λ bs b l. record { count = row-count c n bs; each = row-fits n bs b l };
       }
 

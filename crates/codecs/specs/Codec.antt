@@ -84,4 +84,5 @@ pub record Lawful {A : Type 0} (c : Codec A) (F : A → Type 0) : Type 0 where
   pub long : (x : A) → F x → length (c .encode x) ≡ c .size
   pub back : (x : A) → F x → c .decode (c .encode x) ≡ x
   pub forth : (bs : List ℕ) → Bytes bs → length bs ≡ c .size → c .stands bs ≡ true → c .encode (c .decode bs) ≡ bs
+  pub stand : (x : A) → F x → c .stands (c .encode x) ≡ true
   pub fits : (bs : List ℕ) → Bytes bs → length bs ≡ c .size → F (c .decode bs)

@@ -8,7 +8,7 @@ use Rattle.little_endian.specs.LittleEndian.{part}
 use Rattle.little_endian.specs.Writes.{Wrote}
 use Rattle.codecs.specs.Codec.{Codec, Lawful}
 use Rattle.codecs.specs.Field.{Field}
-use Rattle.codecs.proofs.Fields.{written, row-past, row-out}
+use Rattle.codecs.proofs.Fields.{written, written-stands, row-past, row-out}
 use Rattle.records.specs.Sizes.{fileSlots, linkSlots, streamSlots, openSlots}
 use Rattle.records.specs.Slots.{zeroFile, zeroLink, zeroStream, zeroOpen}
 use Rattle.records.specs.State.{Tables}
@@ -18,6 +18,7 @@ use Rattle.records.specs.declared.Stream.{Stream}
 use Rattle.records.specs.declared.Open.{Open}
 use Rattle.layout.specs.Records.{fileCodec, linkCodec, streamCodec, openCodec}
 use Rattle.layout.specs.Layout.{tablesCodec, tablesSize, decode, Changed}
+use Rattle.layout.proofs.Tables.{stands-codec, stands-both}
 use Rattle.layout.specs.Puts.{putFile, putLink, putStream, putOpen}
 
 module _ {B : Type 0} {d : Codec B} {at : ℕ} {get : Tables → B} {put : Tables → B → Tables} (f : Field tablesCodec d at get put)
@@ -29,7 +30,12 @@ module _ {B : Type 0} {d : Codec B} {at : ℕ} {get : Tables → B} {put : Table
   pub changed : {F : B → Type 0} → Lawful d F → (x : B) {m : List ℕ} → F x → Wrote bs at (d .encode x) m
       → Changed bs m (put (decode bs) x)
   unfolding decode
-  changed law x h w = record { is = written f law bs x long h w; long = w .kept ∙ long }
+  changed law x {m} h w =
+      record {
+        is = written f law bs x long h w;
+        long = w .kept ∙ long;
+        stays = λ s. stands-both m (w .kept ∙ long) (written-stands f law bs x long h w (stands-codec bs s));
+      }
 
 module _ (bs : List ℕ) (k : ℕ) where
   pub file-past : fileSlots ≤ k → getD (decode bs .volume .files) k zeroFile ≡ zeroFile
@@ -51,16 +57,16 @@ module _ (bs : List ℕ) (k : ℕ) where
 module _ (bs : List ℕ) (long : length bs ≡ tablesSize) (k : ℕ) where
   pub file-out : (f : File) → fileSlots ≤ k → Changed bs bs (putFile (decode bs) (record { 0 = k }) f)
   unfolding decode
-  file-out f h = record { is = rw (row-out fileCodec f fileSlots k _ h); long = long }
+  file-out f h = record { is = rw (row-out fileCodec f fileSlots k _ h); long = long; stays = λ s. s }
 
   pub link-out : (l : Link) → linkSlots ≤ k → Changed bs bs (putLink (decode bs) (record { 0 = k }) l)
   unfolding decode
-  link-out l h = record { is = rw (row-out linkCodec l linkSlots k _ h); long = long }
+  link-out l h = record { is = rw (row-out linkCodec l linkSlots k _ h); long = long; stays = λ s. s }
 
   pub stream-out : (s : Stream) → streamSlots ≤ k → Changed bs bs (putStream (decode bs) (record { 0 = k }) s)
   unfolding decode
-  stream-out s h = record { is = rw (row-out streamCodec s streamSlots k _ h); long = long }
+  stream-out s h = record { is = rw (row-out streamCodec s streamSlots k _ h); long = long; stays = λ s. s }
 
   pub open-out : (o : Open) → openSlots ≤ k → Changed bs bs (putOpen (decode bs) k o)
   unfolding decode
-  open-out o h = record { is = rw (row-out openCodec o openSlots k _ h); long = long }
+  open-out o h = record { is = rw (row-out openCodec o openSlots k _ h); long = long; stays = λ s. s }

@@ -5,7 +5,7 @@ use mathlib.Core.List.{List}
 use Prim.Native.Nat.{ℕ}
 use lib.Dec.{eqb}
 use lib.ListN.{length}
-use borrow.Author.Tests.{eqb-true}
+use borrow.Author.Tests.{eqb-true, eq-eqb}
 use Rattle.little_endian.specs.LittleEndian.{Bytes}
 use Rattle.codecs.specs.Codec.{Lawful}
 use Rattle.codecs.proofs.Laws.{both-lawful, via-lawful, row-lawful, same-bytes}
@@ -46,9 +46,13 @@ pub stands-length : (bs : List ℕ) → standsForTables bs ≡ true → length b
 unfolding standsForTables
 stands-length bs s = eqb-true _ _ (and-eq-true-iff _ _ .0 s .0)
 
-stands-codec : (bs : List ℕ) → standsForTables bs ≡ true → tablesCodec .stands bs ≡ true
+pub stands-codec : (bs : List ℕ) → standsForTables bs ≡ true → tablesCodec .stands bs ≡ true
 unfolding standsForTables
 stands-codec bs s = and-eq-true-iff (eqb (length bs) tablesSize) _ .0 s .1
+
+pub stands-both : (bs : List ℕ) → length bs ≡ tablesSize → tablesCodec .stands bs ≡ true → standsForTables bs ≡ true
+unfolding standsForTables
+stands-both bs l s = and-eq-true-iff _ _ .1 (eq-eqb _ _ l, s)
 
 -- bytes that stand for tables are the bytes of those tables
 pub encode-decode : (bs : List ℕ) → Bytes bs → standsForTables bs ≡ true → encode (decode bs) ≡ bs

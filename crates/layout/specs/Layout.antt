@@ -1,7 +1,7 @@
 -- The tables in bytes: the volume's mark and next handle, then its files, links and streams, then the opens.
 use Prim.Native.Nat.{ℕ, _+_, _-_}
 use mathlib.Core.Path.{_≡_}
-use mathlib.Core.Bool.{Bool, _&&_}
+use mathlib.Core.Bool.{Bool, true, _&&_}
 use mathlib.Core.List.{List}
 use lib.Dec.{eqb}
 use lib.ListN.{length}
@@ -103,7 +103,8 @@ decode bs = tablesCodec .decode bs
 unfoldable pub standsForTables : List ℕ → Bool
 standsForTables bs = eqb (length bs) tablesSize && tablesCodec .stands bs
 
--- bytes l changed to bytes m that stand for the tables t: as many, and they still stand for tables
+-- bytes l changed to bytes m that stand for the tables t: as many, and no mark or kind that there is not has come
 pub record Changed (l m : List ℕ) (t : Tables) : Type 0 where
   pub is : decode m ≡ t
   pub long : length m ≡ tablesSize
+  pub stays : standsForTables l ≡ true → standsForTables m ≡ true
