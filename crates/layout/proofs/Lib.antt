@@ -1,4 +1,5 @@
 -- The laws of the tables in bytes.
+pub mod Tests
 pub mod Records
 pub mod Tables
 pub mod Fields

@@ -1,5 +1,6 @@
 // The tables in bytes (docs/LAYOUT.md): where each field stands, what the bytes stand for, and the sizes and places by
-// name for the code above. Nothing is read or written here.
+// name for the code above.
+use records::FileType;
 use records::sizes::ACCOUNTS;
 use records::sizes::FILE_NAME_LIMIT;
 use records::sizes::FILE_SLOTS;
@@ -7,6 +8,8 @@ use records::sizes::LINK_SLOTS;
 use records::sizes::OPEN_SLOTS;
 use records::sizes::STREAM_NAME_LIMIT;
 use records::sizes::STREAM_SLOTS;
+ghost use mathlib.Core.Path.{_≡_};
+ghost use Rattle.layout.specs.Kinds.{kindOf, kindNumber};
 
 // bytes of a record
 pub const FILE_SIZE: usize = 2 + 4 + 4 * ACCOUNTS;
@@ -35,3 +38,25 @@ pub const OPENS_AT: usize = STREAMS_AT + STREAM_SIZE * STREAM_SLOTS;
 
 // all of it
 pub const TABLES_SIZE: usize = OPENS_AT + OPEN_SIZE * OPEN_SLOTS;
+
+pub fn kind_of(n: u16) -> FileType
+    ensures { λ r. ⌜ r ≡ kindOf n ⌝ }
+{
+    if n == 0 {
+        return FileType::Unused;
+    }
+    if n == 1 {
+        return FileType::Data;
+    }
+    FileType::Directory
+}
+
+pub fn kind_number(t: FileType) -> u16
+    ensures { λ r. ⌜ r ≡ kindNumber t ⌝ }
+{
+    match t {
+        FileType::Unused => 0,
+        FileType::Data => 1,
+        FileType::Directory => 2,
+    }
+}

@@ -1,2 +1,0 @@
--- Laws that belong to no single function.
-pub mod Tests

@@ -1,1 +1,0 @@
--- Nothing of its own: the contracts cite the layout and the tables.

@@ -1,0 +1,31 @@
+-- `records_links::put_link` meets its contract: the fields are written side by side.
+use borrow.Author.Needs.{needs}
+use native.Mathlib.Omega.{arith}
+use Rattle.little_endian.proofs.Numbers.{after}
+use Rattle.records.proofs.Lengths.{link-name-length}
+use Rattle.records_links.proofs.put_link.Statement.{statement}
+use Rattle.records_links.proofs.put_link.Tie as tie
+
+write-units-requires : tie.Need-write-units-requires
+write-units-requires c κs =
+    let s = c .before .before .before .before .before .before .before .before .before .before .before .before in
+    let n = link-name-length (s .args .l) _ (s .good .1 .1 .0) in
+    omega arith
+
+returns : tie.Need-returns
+returns c =
+    after 2 _ (omega arith) (c .before .before .before .before .before .before .before .before .before .before .before .write-u16 .ensures)
+    (after 2 _ (omega arith) (c .before .before .before .before .before .before .before .write-u162 .ensures) (c .before .before .write-units .ensures))
+
+pub put-link-spec : {M : Type 1} → statement M
+put-link-spec =
+    tie.close
+    (tie.spec
+    (λ c κs. search needs)
+    (λ c. search needs)
+    (λ c κs. search needs)
+    (λ c. search needs)
+    (λ c. search needs)
+    write-units-requires
+    (λ c. search needs)
+    returns)

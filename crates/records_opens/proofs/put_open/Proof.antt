@@ -1,0 +1,29 @@
+-- `records_opens::put_open` meets its contract: the fields are written side by side.
+use borrow.Author.Needs.{needs}
+use native.Mathlib.Omega.{arith}
+use Rattle.little_endian.proofs.Numbers.{after}
+use Rattle.records_opens.proofs.put_open.Statement.{statement}
+use Rattle.records_opens.proofs.put_open.Tie as tie
+
+returns : tie.Need-returns
+returns c =
+    after 8 _ (omega arith) (c .before .before .before .before .before .before .before .before .before .before .before .before .before .before .before .before .before .before .write-u64 .ensures)
+    (after 2 _ (omega arith) (c .before .before .before .before .before .before .before .before .before .before .before .before .before .before .write-u16 .ensures)
+    (after 2 _ (omega arith) (c .before .before .before .before .before .before .before .before .before .before .write-u162 .ensures)
+    (after 4 _ (omega arith) (c .before .before .before .before .before .before .write-u32 .ensures) (c .before .before .write-u322 .ensures))))
+
+pub put-open-spec : {M : Type 1} → statement M
+put-open-spec =
+    tie.close
+    (tie.spec
+    (λ c κs. search needs)
+    (λ c. search needs)
+    (λ c κs. search needs)
+    (λ c. search needs)
+    (λ c κs. search needs)
+    (λ c. search needs)
+    (λ c κs. search needs)
+    (λ c. search needs)
+    (λ c κs. search needs)
+    (λ c. search needs)
+    returns)
