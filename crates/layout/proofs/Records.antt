@@ -8,11 +8,11 @@ use Rattle.codecs.proofs.Laws.{number-lawful, cases-lawful, both-lawful, via-la
 use Rattle.records.specs.Sizes.{accounts, fileNameLimit, streamNameLimit}
 use Rattle.records.specs.declared.FileType.{FileType}
 use Rattle.records.specs.declared.FileType.the-variants.{Unused, Data, Directory}
-use Rattle.layout.specs.Kinds.{kindOf, kindNumber, markOf, markNumber}
+use Rattle.layout.specs.Kinds.{kinds, marks, kindOf, kindNumber, markOf, markNumber}
 use Rattle.layout.specs.Records.{kindCodec, markCodec, fileNoCodec, streamNoCodec, handleCodec, fileCodec, linkCodec, countsCodec, streamCodec, openCodec}
 use Rattle.layout.specs.Fits.{FileFits, LinkFits, CountsFit, StreamFits, OpenFits}
 
-pub kind-number : (k : FileType) → kindNumber k < 3
+pub kind-number : (k : FileType) → kindNumber k < kinds
 unfolding kindNumber
 kind-number Unused = omega arith
 kind-number Data = omega arith
@@ -24,13 +24,13 @@ kind-there Unused = refl
 kind-there Data = refl
 kind-there Directory = refl
 
-pub kind-again : (n : ℕ) → n < 3 → kindNumber (kindOf n) ≡ n
+pub kind-again : (n : ℕ) → n < kinds → kindNumber (kindOf n) ≡ n
 unfolding kindNumber kindOf
 kind-again zero h = refl
 kind-again (suc zero) h = refl
 kind-again (suc (suc n)) h = omega arith
 
-pub mark-number : (m : Bool) → markNumber m < 2
+pub mark-number : (m : Bool) → markNumber m < marks
 unfolding markNumber
 mark-number true = omega arith
 mark-number false = omega arith
@@ -40,16 +40,16 @@ unfolding markNumber markOf
 mark-there true = refl
 mark-there false = refl
 
-pub mark-again : (n : ℕ) → n < 2 → markNumber (markOf n) ≡ n
+pub mark-again : (n : ℕ) → n < marks → markNumber (markOf n) ≡ n
 unfolding markNumber markOf
 mark-again zero h = refl
 mark-again (suc n) h = omega arith
 
 pub kind-lawful : Lawful kindCodec (λ k. Unit {0})
-kind-lawful = cases-lawful 3 kindOf kindNumber (omega arith) kind-number kind-there kind-again
+kind-lawful = cases-lawful kinds kindOf kindNumber (omega arith) kind-number kind-there kind-again
 
 pub mark-lawful : Lawful markCodec (λ m. Unit {0})
-mark-lawful = cases-lawful 2 markOf markNumber (omega arith) mark-number mark-there mark-again
+mark-lawful = cases-lawful marks markOf markNumber (omega arith) mark-number mark-there mark-again
 
 pub fileNo-lawful : Lawful fileNoCodec (λ f. Below 2 (f .0))
 fileNo-lawful = via-lawful _ _ (λ b. refl) (λ a. refl) (λ b h. h) (λ a h. h) (number-lawful 2)

@@ -4,6 +4,13 @@ use mathlib.Core.Bool.{Bool, true, false}
 use Rattle.records.specs.declared.FileType.{FileType}
 use Rattle.records.specs.declared.FileType.the-variants.{Unused, Data, Directory}
 
+-- how many there are
+abbrev pub kinds : ℕ
+kinds = 3
+
+abbrev pub marks : ℕ
+marks = 2
+
 unfoldable pub kindNumber : FileType → ℕ
 kindNumber Unused = 0
 kindNumber Data = 1

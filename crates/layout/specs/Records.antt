@@ -13,13 +13,13 @@ use Rattle.records.specs.declared.Link.{Link}
 use Rattle.records.specs.declared.ShareCounts.{ShareCounts}
 use Rattle.records.specs.declared.Stream.{Stream}
 use Rattle.records.specs.declared.Open.{Open}
-use Rattle.layout.specs.Kinds.{kindOf, kindNumber, markOf, markNumber}
+use Rattle.layout.specs.Kinds.{kinds, marks, kindOf, kindNumber, markOf, markNumber}
 
 abbrev pub kindCodec : Codec FileType
-kindCodec = cases 3 kindOf kindNumber
+kindCodec = cases kinds kindOf kindNumber
 
 abbrev pub markCodec : Codec Bool
-markCodec = cases 2 markOf markNumber
+markCodec = cases marks markOf markNumber
 
 abbrev pub fileNoCodec : Codec FileNo
 fileNoCodec = via (λ n. record { 0 = n }) (λ f. f .0) (number 2)
