@@ -1,16 +1,17 @@
 -- Where each record and field of the tables stands.
 use Prim.Native.Nat.{ℕ, _+_, _*_, _<_}
 use mathlib.Core.Path.{_≡_, refl, subst}
+use native.Mathlib.Nat.{add-zero}
 use native.Mathlib.Omega.{arith}
 use lib.ListN.{getD}
-use Rattle.codecs.specs.Codec.{Codec, _⊗_, row}
+use Rattle.codecs.specs.Codec.{Codec, number, _⊗_, row}
 use Rattle.codecs.specs.Field.{Field}
-use Rattle.codecs.proofs.Fields.{whole, first, rest, slot, through, moved}
-use Rattle.records.specs.Sizes.{fileSlots, linkSlots, streamSlots, openSlots}
+use Rattle.codecs.proofs.Fields.{whole, first, rest, slot, through, inner, moved}
+use Rattle.records.specs.Sizes.{fileNameLimit, streamNameLimit, fileSlots, linkSlots, streamSlots, openSlots}
 use Rattle.records.specs.Slots.{zeroFile, zeroLink, zeroStream, zeroOpen}
-use Rattle.layout.specs.Records.{markCodec, handleCodec, fileCodec, linkCodec, streamCodec, openCodec}
-use Rattle.layout.specs.Layout.{tablesCodec, parts, joined, filesCodec, linksCodec, streamsCodec, opensCodec, fileSize, linkSize, streamSize, openSize, nextAt, filesAt, linksAt, streamsAt, opensAt}
-use Rattle.layout.specs.Puts.{putMark, putNext, putFile, putLink, putStream, putOpen}
+use Rattle.layout.specs.Records.{kindCodec, fileNoCodec, streamNoCodec, countsCodec, linkOf, linkFields, streamOf, streamFields, openOf, openFields, markCodec, handleCodec, fileCodec, linkCodec, streamCodec, openCodec}
+use Rattle.layout.specs.Layout.{tablesCodec, parts, joined, filesCodec, linksCodec, streamsCodec, opensCodec, fileSize, linkSize, streamSize, openSize, nextAt, filesAt, linksAt, streamsAt, opensAt, countsIn}
+use Rattle.layout.specs.Puts.{putMark, putNext, putFile, putLink, putStream, putOpen, recounted, putCounts}
 
 pub mark-field : Field tablesCodec markCodec 0 (λ t. t .volume .«read_only») putMark
 mark-field =
@@ -61,3 +62,35 @@ module _ (k : ℕ) where
       (rest markCodec
       (rest handleCodec
       (rest filesCodec (rest linksCodec (rest streamsCodec (slot openCodec zeroOpen openSlots k h)))))))
+
+-- fields of the records
+parent-in : Field linkCodec fileNoCodec 0 (λ l. l .parent) (λ l p. linkOf (p, (l .file, l .name)))
+parent-in =
+    through linkOf linkFields (λ a. refl) (first (fileNoCodec ⊗ row (number 2) fileNameLimit) (whole fileNoCodec))
+
+counts-in : Field streamCodec countsCodec countsIn (λ s. s .counts) recounted
+counts-in =
+    through streamOf streamFields (λ a. refl)
+    (rest kindCodec (rest fileNoCodec (rest (row (number 2) streamNameLimit) (whole countsCodec))))
+
+handle-in : Field openCodec handleCodec 0 (λ o. o .handle) (λ o h. openOf (h, (o .file, (o .stream, (o .granted, o .share)))))
+handle-in =
+    through openOf openFields (λ a. refl)
+    (first (fileNoCodec ⊗ streamNoCodec ⊗ number 4 ⊗ number 4) (whole handleCodec))
+
+module _ (k : ℕ) where
+  pub parent-field : k < linkSlots
+      → Field tablesCodec fileNoCodec (linksAt + linkSize * k) (λ t. getD (t .volume .links) k zeroLink .parent)
+      (λ t p. let l = getD (t .volume .links) k zeroLink in putLink t (record { 0 = k }) (linkOf (p, (l .file, l .name))))
+  parent-field h = moved (add-zero _) (inner (link-field k h) parent-in)
+
+  pub counts-field : k < streamSlots
+      → Field tablesCodec countsCodec (streamsAt + streamSize * k + countsIn)
+      (λ t. getD (t .volume .streams) k zeroStream .counts)
+      (λ t c. putCounts t (record { 0 = k }) c)
+  counts-field h = inner (stream-field k h) counts-in
+
+  pub handle-field : k < openSlots
+      → Field tablesCodec handleCodec (opensAt + openSize * k) (λ t. getD (t .opens .rows) k zeroOpen .handle)
+      (λ t h. let o = getD (t .opens .rows) k zeroOpen in putOpen t k (openOf (h, (o .file, (o .stream, (o .granted, o .share))))))
+  handle-field h = moved (add-zero _) (inner (open-field k h) handle-in)

@@ -14,12 +14,13 @@ use Rattle.records.specs.Slots.{zeroFile, zeroLink, zeroStream, zeroOpen}
 use Rattle.records.specs.State.{Tables}
 use Rattle.records.specs.declared.File.{File}
 use Rattle.records.specs.declared.Link.{Link}
+use Rattle.records.specs.declared.ShareCounts.{ShareCounts}
 use Rattle.records.specs.declared.Stream.{Stream}
 use Rattle.records.specs.declared.Open.{Open}
 use Rattle.layout.specs.Records.{fileCodec, linkCodec, streamCodec, openCodec}
 use Rattle.layout.specs.Layout.{tablesCodec, tablesSize, decode, Changed}
 use Rattle.layout.proofs.Tables.{stands-codec, stands-both}
-use Rattle.layout.specs.Puts.{putFile, putLink, putStream, putOpen}
+use Rattle.layout.specs.Puts.{putFile, putLink, putStream, putOpen, putCounts}
 
 module _ {B : Type 0} {d : Codec B} {at : ℕ} {get : Tables → B} {put : Tables → B → Tables} (f : Field tablesCodec d at get put)
     (bs : List ℕ) (long : length bs ≡ tablesSize) where
@@ -70,3 +71,6 @@ module _ (bs : List ℕ) (long : length bs ≡ tablesSize) (k : ℕ) where
   pub open-out : (o : Open) → openSlots ≤ k → Changed bs bs (putOpen (decode bs) k o)
   unfolding decode
   open-out o h = record { is = rw (row-out openCodec o openSlots k _ h); long = long; stays = λ s. s }
+
+  pub counts-out : (c : ShareCounts) → streamSlots ≤ k → Changed bs bs (putCounts (decode bs) (record { 0 = k }) c)
+  counts-out c h = stream-out _ h

@@ -1,7 +1,8 @@
 -- The tables with one record or field put; past a table's end nothing is.
 use Prim.Native.Nat.{ℕ}
 use mathlib.Core.Bool.{Bool}
-use lib.ListN.{set}
+use lib.ListN.{getD, set}
+use Rattle.records.specs.Slots.{zeroStream}
 use Rattle.records.specs.State.{Tables}
 use Rattle.records.specs.declared.FileNo.{FileNo}
 use Rattle.records.specs.declared.LinkNo.{LinkNo}
@@ -9,6 +10,7 @@ use Rattle.records.specs.declared.StreamNo.{StreamNo}
 use Rattle.records.specs.declared.Handle.{Handle}
 use Rattle.records.specs.declared.File.{File}
 use Rattle.records.specs.declared.Link.{Link}
+use Rattle.records.specs.declared.ShareCounts.{ShareCounts}
 use Rattle.records.specs.declared.Stream.{Stream}
 use Rattle.records.specs.declared.Open.{Open}
 use Rattle.records.specs.declared.Volume.{Volume}
@@ -87,6 +89,13 @@ putStream t n s =
           };
       opens = t .opens;
     }
+
+-- a stream's share counts alone
+abbrev pub recounted : Stream → ShareCounts → Stream
+recounted s c = record { file = s .file; «stream_type» = s .«stream_type»; name = s .name; counts = c }
+
+abbrev pub putCounts : Tables → StreamNo → ShareCounts → Tables
+putCounts t n c = putStream t n (recounted (getD (t .volume .streams) (n .0) zeroStream) c)
 
 abbrev pub putOpen : Tables → ℕ → Open → Tables
 putOpen t n o = record { volume = t .volume; opens = record { rows = set (t .opens .rows) n o } }

@@ -39,11 +39,15 @@ fileCodec =
     (kindCodec ⊗ number 4 ⊗ row (number 4) accounts)
 
 -- parent, file, name
+abbrev pub linkOf : FileNo × (FileNo × List ℕ) → Link
+linkOf p = record { parent = p .0; file = p .1 .0; name = p .1 .1 }
+
+abbrev pub linkFields : Link → FileNo × (FileNo × List ℕ)
+linkFields l = (l .parent, (l .file, l .name))
+
 abbrev pub linkCodec : Codec Link
 linkCodec =
-    via
-    (λ p. record { parent = p .0; file = p .1 .0; name = p .1 .1 })
-    (λ l. (l .parent, (l .file, l .name)))
+    via linkOf linkFields
     (fileNoCodec ⊗ fileNoCodec ⊗ row (number 2) fileNameLimit)
 
 -- the seven share counts
@@ -67,17 +71,26 @@ countsCodec =
     (number 2 ⊗ number 2 ⊗ number 2 ⊗ number 2 ⊗ number 2 ⊗ number 2 ⊗ number 2)
 
 -- kind, file, name, counts
+abbrev pub streamOf : FileType × (FileNo × (List ℕ × ShareCounts)) → Stream
+streamOf p = record { «stream_type» = p .0; file = p .1 .0; name = p .1 .1 .0; counts = p .1 .1 .1 }
+
+abbrev pub streamFields : Stream → FileType × (FileNo × (List ℕ × ShareCounts))
+streamFields s = (s .«stream_type», (s .file, (s .name, s .counts)))
+
 abbrev pub streamCodec : Codec Stream
 streamCodec =
-    via
-    (λ p. record { «stream_type» = p .0; file = p .1 .0; name = p .1 .1 .0; counts = p .1 .1 .1 })
-    (λ s. (s .«stream_type», (s .file, (s .name, s .counts))))
+    via streamOf streamFields
     (kindCodec ⊗ fileNoCodec ⊗ row (number 2) streamNameLimit ⊗ countsCodec)
 
 -- handle, file, stream, granted access, sharing mode
+abbrev pub openOf : Handle × (FileNo × (StreamNo × (ℕ × ℕ))) → Open
+openOf p =
+    record { handle = p .0; file = p .1 .0; stream = p .1 .1 .0; granted = p .1 .1 .1 .0; share = p .1 .1 .1 .1 }
+
+abbrev pub openFields : Open → Handle × (FileNo × (StreamNo × (ℕ × ℕ)))
+openFields o = (o .handle, (o .file, (o .stream, (o .granted, o .share))))
+
 abbrev pub openCodec : Codec Open
 openCodec =
-    via
-    (λ p. record { handle = p .0; file = p .1 .0; stream = p .1 .1 .0; granted = p .1 .1 .1 .0; share = p .1 .1 .1 .1 })
-    (λ o. (o .handle, (o .file, (o .stream, (o .granted, o .share)))))
+    via openOf openFields
     (handleCodec ⊗ fileNoCodec ⊗ streamNoCodec ⊗ number 4 ⊗ number 4)

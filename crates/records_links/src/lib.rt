@@ -65,3 +65,16 @@ pub fn write_link(b: &mut [u8], n: LinkNo, l: Link)
         return;
     }
 }
+
+// A link's parent alone.
+pub fn read_parent(b: &[u8], n: LinkNo) -> FileNo
+    requires { ⌜ length (now b) ≡ tablesSize ⌝ }
+    ensures { λ r. ⌜ r ≡ linkAt (decode (now (b .entry)) .volume .links) n .parent ⌝ }
+{
+    let i = n.0 as usize;
+    if i < LINK_SLOTS {
+        FileNo(read_u16(b, LINKS_AT + LINK_SIZE * i))
+    } else {
+        FileNo(0)
+    }
+}

@@ -68,3 +68,15 @@ pub fn write_open(b: &mut [u8], n: usize, o: Open)
         return;
     }
 }
+
+// An open's handle alone.
+pub fn read_handle(b: &[u8], n: usize) -> Handle
+    requires { ⌜ length (now b) ≡ tablesSize ⌝ }
+    ensures { λ r. ⌜ r ≡ rowAt (decode (now (b .entry)) .opens) n .handle ⌝ }
+{
+    if n < OPEN_SLOTS {
+        Handle(read_u64(b, OPENS_AT + OPEN_SIZE * n))
+    } else {
+        Handle(0)
+    }
+}

@@ -15,6 +15,7 @@ use records::Stream;
 use records::StreamNo;
 use records::sizes::STREAM_NAME_LIMIT;
 use records::sizes::STREAM_SLOTS;
+use records::slots::ZERO_COUNTS;
 use records::slots::ZERO_STREAM;
 ghost use mathlib.Core.Path.{_≡_};
 ghost use Prim.Native.Nat.{_+_, _≤_};
@@ -23,7 +24,7 @@ ghost use Rattle.little_endian.specs.LittleEndian.{part};
 ghost use Rattle.little_endian.specs.Writes.{Wrote};
 ghost use Rattle.layout.specs.Records.{countsCodec, streamCodec};
 ghost use Rattle.layout.specs.Layout.{streamSize, tablesSize, decode, Changed};
-ghost use Rattle.layout.specs.Puts.{putStream};
+ghost use Rattle.layout.specs.Puts.{putStream, putCounts};
 ghost use Rattle.tables.specs.Tables.{streamAt};
 
 fn counts_from(b: &[u8], at: usize) -> ShareCounts
@@ -103,6 +104,30 @@ pub fn write_stream(b: &mut [u8], n: StreamNo, s: Stream)
     let i = n.0 as usize;
     if i < STREAM_SLOTS {
         put_stream(b, STREAMS_AT + STREAM_SIZE * i, s);
+        return;
+    }
+}
+
+// A stream's share counts alone.
+pub fn read_counts(b: &[u8], n: StreamNo) -> ShareCounts
+    requires { ⌜ length (now b) ≡ tablesSize ⌝ }
+    ensures { λ r. ⌜ r ≡ streamAt (decode (now (b .entry)) .volume .streams) n .counts ⌝ }
+{
+    let i = n.0 as usize;
+    if i < STREAM_SLOTS {
+        counts_from(b, STREAMS_AT + STREAM_SIZE * i + COUNTS_IN)
+    } else {
+        ZERO_COUNTS
+    }
+}
+
+pub fn write_counts(b: &mut [u8], n: StreamNo, c: ShareCounts)
+    requires { ⌜ length (now b) ≡ tablesSize ⌝ }
+    ensures { λ _. ⌜ Changed (now (b .entry)) (now (b .exit)) (putCounts (decode (now (b .entry))) n c) ⌝ }
+{
+    let i = n.0 as usize;
+    if i < STREAM_SLOTS {
+        put_counts(b, STREAMS_AT + STREAM_SIZE * i + COUNTS_IN, c);
         return;
     }
 }

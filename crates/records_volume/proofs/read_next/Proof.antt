@@ -1,6 +1,5 @@
 -- `records_volume::read_next` meets its contract: the handle stands after the mark.
 use borrow.Author.Needs.{needs}
-use mathlib.Core.Path.{sym, _∙_}
 use mathlib.Core.Path.{sym}
 use native.Mathlib.Omega.{arith}
 use Rattle.layout.proofs.Fields.{next-field}
