@@ -7,7 +7,7 @@ use lib.Dec.{ltb}
 use lib.ListN.{length, take, drop}
 use Rattle.little_endian.specs.LittleEndian.{fromBytes, toBytes, Bytes}
 
--- how many bytes a value takes; its bytes; what bytes stand for, and whether they stand for a value at all
+-- how many bytes a value takes; its bytes; and of so many bytes, what they stand for and whether for a value at all
 pub record Codec (A : Type 0) : Type 0 where
   pub size : ℕ
   pub encode : A → List ℕ

@@ -7,7 +7,13 @@ use Rattle.records_files.proofs.file_from.Tie as tie
 returns : tie.Need-returns
 returns c =
     let a = c .before .before .before .before .before .before .before .args in
-    rw (file-parts (a .b .now) (a .at), c .before .read-words .ensures, c .before .before .before .before .kind-of .ensures, c .before .before .before .read-u32 .ensures, c .before .before .before .before .before .read-u16 .ensures)
+    rw (
+      file-parts (a .b .now) (a .at),
+      c .before .read-words .ensures,
+      c .before .before .before .before .kind-of .ensures,
+      c .before .before .before .read-u32 .ensures,
+      c .before .before .before .before .before .read-u16 .ensures,
+    )
 
 pub file-from-spec : {M : Type 1} → statement M
 file-from-spec =

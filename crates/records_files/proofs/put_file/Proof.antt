@@ -8,14 +8,17 @@ use Rattle.records_files.proofs.put_file.Tie as tie
 
 write-words-requires : tie.Need-write-words-requires
 write-words-requires c κs =
-    let s = c .before .before .before .before .before .before .before .before .before .before .before .before .before in
-    let n = masks-length (s .args .f) _ (s .good .1 .1 .0) in
+    let start = c .before .before .before .before .before .before .before .before .before .before .before .before .before in
+    let n = masks-length (start .args .f) _ (start .good .1 .1 .0) in
     omega arith
 
 returns : tie.Need-returns
 returns c =
-    after 2 _ (omega arith) (rw (c .before .before .before .before .before .before .before .before .before .before .before .before .kind-number .ensures) at (c .before .before .before .before .before .before .before .before .before .before .before .write-u16 .ensures))
-    (after 4 _ (omega arith) (c .before .before .before .before .before .before .before .write-u32 .ensures) (c .before .before .write-words .ensures))
+    let masks = c .before .before in
+    let attributes = masks .before .before .before .before .before in
+    let kind = attributes .before .before .before .before in
+    after 2 _ (omega arith) (rw (kind .before .kind-number .ensures) at (kind .write-u16 .ensures))
+    (after 4 _ (omega arith) (attributes .write-u32 .ensures) (masks .write-words .ensures))
 
 pub put-file-spec : {M : Type 1} → statement M
 put-file-spec =

@@ -7,7 +7,12 @@ use Rattle.records_links.proofs.link_from.Tie as tie
 returns : tie.Need-returns
 returns c =
     let a = c .before .before .before .before .before .before .args in
-    rw (link-parts (a .b .now) (a .at), c .before .read-units .ensures, c .before .before .before .read-u162 .ensures, c .before .before .before .before .read-u16 .ensures)
+    rw (
+      link-parts (a .b .now) (a .at),
+      c .before .read-units .ensures,
+      c .before .before .before .read-u162 .ensures,
+      c .before .before .before .before .read-u16 .ensures,
+    )
 
 pub link-from-spec : {M : Type 1} → statement M
 link-from-spec =

@@ -8,14 +8,17 @@ use Rattle.records_links.proofs.put_link.Tie as tie
 
 write-units-requires : tie.Need-write-units-requires
 write-units-requires c κs =
-    let s = c .before .before .before .before .before .before .before .before .before .before .before .before in
-    let n = link-name-length (s .args .l) _ (s .good .1 .1 .0) in
+    let start = c .before .before .before .before .before .before .before .before .before .before .before .before in
+    let n = link-name-length (start .args .l) _ (start .good .1 .1 .0) in
     omega arith
 
 returns : tie.Need-returns
 returns c =
-    after 2 _ (omega arith) (c .before .before .before .before .before .before .before .before .before .before .before .write-u16 .ensures)
-    (after 2 _ (omega arith) (c .before .before .before .before .before .before .before .write-u162 .ensures) (c .before .before .write-units .ensures))
+    let name = c .before .before in
+    let file = name .before .before .before .before .before in
+    let parent = file .before .before .before .before in
+    after 2 _ (omega arith) (parent .write-u16 .ensures)
+    (after 2 _ (omega arith) (file .write-u162 .ensures) (name .write-units .ensures))
 
 pub put-link-spec : {M : Type 1} → statement M
 put-link-spec =

@@ -7,7 +7,14 @@ use Rattle.records_opens.proofs.open_from.Tie as tie
 returns : tie.Need-returns
 returns c =
     let a = c .before .before .before .before .before .before .args in
-    rw (open-parts (a .b .now) (a .at), c .read-u322 .ensures, c .before .read-u32 .ensures, c .before .before .read-u162 .ensures, c .before .before .before .read-u16 .ensures, c .before .before .before .before .read-u64 .ensures)
+    rw (
+      open-parts (a .b .now) (a .at),
+      c .read-u322 .ensures,
+      c .before .read-u32 .ensures,
+      c .before .before .read-u162 .ensures,
+      c .before .before .before .read-u16 .ensures,
+      c .before .before .before .before .read-u64 .ensures,
+    )
 
 pub open-from-spec : {M : Type 1} → statement M
 open-from-spec =

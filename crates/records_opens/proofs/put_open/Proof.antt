@@ -7,10 +7,15 @@ use Rattle.records_opens.proofs.put_open.Tie as tie
 
 returns : tie.Need-returns
 returns c =
-    after 8 _ (omega arith) (c .before .before .before .before .before .before .before .before .before .before .before .before .before .before .before .before .before .before .write-u64 .ensures)
-    (after 2 _ (omega arith) (c .before .before .before .before .before .before .before .before .before .before .before .before .before .before .write-u16 .ensures)
-    (after 2 _ (omega arith) (c .before .before .before .before .before .before .before .before .before .before .write-u162 .ensures)
-    (after 4 _ (omega arith) (c .before .before .before .before .before .before .write-u32 .ensures) (c .before .before .write-u322 .ensures))))
+    let share = c .before .before in
+    let granted = share .before .before .before .before in
+    let stream = granted .before .before .before .before in
+    let file = stream .before .before .before .before in
+    let handle = file .before .before .before .before in
+    after 8 _ (omega arith) (handle .write-u64 .ensures)
+    (after 2 _ (omega arith) (file .write-u16 .ensures)
+    (after 2 _ (omega arith) (stream .write-u162 .ensures)
+    (after 4 _ (omega arith) (granted .write-u32 .ensures) (share .write-u322 .ensures))))
 
 pub put-open-spec : {M : Type 1} → statement M
 put-open-spec =

@@ -7,7 +7,16 @@ use Rattle.records_streams.proofs.counts_from.Tie as tie
 returns : tie.Need-returns
 returns c =
     let a = c .before .before .before .before .before .before .before .before .args in
-    rw (counts-parts (a .b .now) (a .at), c .before .before .before .before .before .before .read-u16 .ensures, c .before .before .before .before .before .read-u162 .ensures, c .before .before .before .before .read-u163 .ensures, c .before .before .before .read-u164 .ensures, c .before .before .read-u165 .ensures, c .before .read-u166 .ensures, c .read-u167 .ensures)
+    rw (
+      counts-parts (a .b .now) (a .at),
+      c .before .before .before .before .before .before .read-u16 .ensures,
+      c .before .before .before .before .before .read-u162 .ensures,
+      c .before .before .before .before .read-u163 .ensures,
+      c .before .before .before .read-u164 .ensures,
+      c .before .before .read-u165 .ensures,
+      c .before .read-u166 .ensures,
+      c .read-u167 .ensures,
+    )
 
 pub counts-from-spec : {M : Type 1} → statement M
 counts-from-spec =

@@ -9,17 +9,21 @@ use Rattle.records_streams.proofs.put_stream.Tie as tie
 
 write-units-requires : tie.Need-write-units-requires
 write-units-requires c κs =
-    let s = c .before .before .before .before .before .before .before .before .before .before .before .before .before .before in
-    let n = stream-name-length (s .args .s) _ (s .good .1 .1 .0) in
+    let start = c .before .before .before .before .before .before .before .before .before .before .before .before .before .before in
+    let n = stream-name-length (start .args .s) _ (start .good .1 .1 .0) in
     omega arith
 
 returns : tie.Need-returns
 returns c =
-    let s = c .before .before .before .before .before .before .before .before .before .before .before .before .before .before .before .before .before .before .before .before .before in
-    let n = stream-name-length (s .args .s) _ (s .good .1 .1 .0) in
-    after 2 _ (omega arith) (rw (c .before .before .before .before .before .before .before .before .before .before .before .before .before .before .before .before .kind-number .ensures) at (c .before .before .before .before .before .before .before .before .before .before .before .before .before .before .before .write-u16 .ensures))
-    (after 2 _ (omega arith) (c .before .before .before .before .before .before .before .before .before .before .before .write-u162 .ensures)
-    (row-after 2 (s .args .s .name) (omega arith) (c .before .before .before .before .before .before .write-units .ensures) (c .before .before .put-counts .ensures)))
+    let counts = c .before .before in
+    let name = counts .before .before .before .before in
+    let file = name .before .before .before .before .before in
+    let kind = file .before .before .before .before in
+    let start = kind .before .before .before .before .before .before in
+    let n = stream-name-length (start .args .s) _ (start .good .1 .1 .0) in
+    after 2 _ (omega arith) (rw (kind .before .kind-number .ensures) at (kind .write-u16 .ensures))
+    (after 2 _ (omega arith) (file .write-u162 .ensures)
+    (row-after 2 (start .args .s .name) (omega arith) (name .write-units .ensures) (counts .put-counts .ensures)))
 
 pub put-stream-spec : {M : Type 1} → statement M
 put-stream-spec =

@@ -7,7 +7,14 @@ use Rattle.records_streams.proofs.stream_from.Tie as tie
 returns : tie.Need-returns
 returns c =
     let a = c .before .before .before .before .before .before .before .before .args in
-    rw (stream-parts (a .b .now) (a .at), c .before .read-units .ensures, c .before .before .before .counts-from .ensures, c .before .before .before .before .read-u162 .ensures, c .before .before .before .before .before .kind-of .ensures, c .before .before .before .before .before .before .read-u16 .ensures)
+    rw (
+      stream-parts (a .b .now) (a .at),
+      c .before .read-units .ensures,
+      c .before .before .before .counts-from .ensures,
+      c .before .before .before .before .read-u162 .ensures,
+      c .before .before .before .before .before .kind-of .ensures,
+      c .before .before .before .before .before .before .read-u16 .ensures,
+    )
 
 pub stream-from-spec : {M : Type 1} → statement M
 stream-from-spec =
