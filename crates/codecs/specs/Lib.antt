@@ -1,0 +1,4 @@
+-- Values in bytes.
+pub mod Codec
+pub mod Field
+pub mod Evaluate

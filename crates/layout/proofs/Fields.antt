@@ -1,0 +1,87 @@
+-- Where each record and field of the tables stands.
+use Rattle.base.{specs.Base.{ℕ, _+_, _*_, _<_, _≡_, getD, fileNameLimit, streamNameLimit, fileSlots, linkSlots, streamSlots, openSlots, zeroFile, zeroLink, zeroStream, zeroOpen}, proofs.Laws.{refl, arith}}
+use native.Mathlib.Nat.{add-zero}
+use Rattle.codecs.{specs.{Codec.{number, _⊗_, row}, Field.Field}, proofs.Fields.{whole, first, rest, slot, through, inner, moved}}
+use Rattle.layout.specs.{Records.{kindCodec, fileNoCodec, streamNoCodec, countsCodec, linkOf, linkFields, streamOf, streamFields, openOf, openFields, markCodec, handleCodec, fileCodec, linkCodec, streamCodec, openCodec}, Layout.{tablesCodec, parts, joined, filesCodec, linksCodec, streamsCodec, opensCodec, fileSize, linkSize, streamSize, openSize, nextAt, filesAt, linksAt, streamsAt, opensAt, countsIn}, Puts.{putMark, putNext, putFile, putLink, putStream, putOpen, recounted, putCounts}}
+
+pub mark-field : Field tablesCodec markCodec 0 (λ t. t .volume .«read_only») putMark
+mark-field =
+    through joined parts (λ a. refl)
+    (first (handleCodec ⊗ filesCodec ⊗ linksCodec ⊗ streamsCodec ⊗ opensCodec) (whole markCodec))
+
+pub next-field : Field tablesCodec handleCodec nextAt (λ t. t .volume .«next_handle») putNext
+next-field =
+    through joined parts (λ a. refl)
+    (rest markCodec (first (filesCodec ⊗ linksCodec ⊗ streamsCodec ⊗ opensCodec) (whole handleCodec)))
+
+module _ (k : ℕ) where
+  pub file-field : k < fileSlots
+      → Field tablesCodec fileCodec (filesAt + fileSize * k) (λ t. getD (t .volume .files) k zeroFile) (λ t f. putFile t (record { 0 = k }) f)
+  file-field h =
+      let at : 2 + (8 + 38 * k) ≡ filesAt + fileSize * k = omega arith in
+      moved at
+      (through joined parts (λ a. refl)
+      (rest markCodec
+      (rest handleCodec (first (linksCodec ⊗ streamsCodec ⊗ opensCodec) (slot fileCodec zeroFile fileSlots k h)))))
+
+  pub link-field : k < linkSlots
+      → Field tablesCodec linkCodec (linksAt + linkSize * k) (λ t. getD (t .volume .links) k zeroLink) (λ t l. putLink t (record { 0 = k }) l)
+  link-field h =
+      let at : 2 + (8 + (filesCodec .size + linkSize * k)) ≡ linksAt + linkSize * k = omega arith in
+      moved at
+      (through joined parts (λ a. refl)
+      (rest markCodec
+      (rest handleCodec (rest filesCodec (first (streamsCodec ⊗ opensCodec) (slot linkCodec zeroLink linkSlots k h))))))
+
+  pub stream-field : k < streamSlots
+      → Field tablesCodec streamCodec (streamsAt + streamSize * k) (λ t. getD (t .volume .streams) k zeroStream) (λ t s. putStream t (record { 0 = k }) s)
+  stream-field h =
+      let at : 2 + (8 + (filesCodec .size + (linksCodec .size + streamSize * k))) ≡ streamsAt + streamSize * k = omega arith in
+      moved at
+      (through joined parts (λ a. refl)
+      (rest markCodec
+      (rest handleCodec
+      (rest filesCodec (rest linksCodec (first opensCodec (slot streamCodec zeroStream streamSlots k h)))))))
+
+  pub open-field : k < openSlots
+      → Field tablesCodec openCodec (opensAt + openSize * k) (λ t. getD (t .opens .rows) k zeroOpen) (λ t o. putOpen t k o)
+  open-field h =
+      let at : 2 + (8 + (filesCodec .size + (linksCodec .size + (streamsCodec .size + openSize * k)))) ≡ opensAt + openSize * k =
+      omega arith in
+      moved at
+      (through joined parts (λ a. refl)
+      (rest markCodec
+      (rest handleCodec
+      (rest filesCodec (rest linksCodec (rest streamsCodec (slot openCodec zeroOpen openSlots k h)))))))
+
+-- fields of the records
+parent-in : Field linkCodec fileNoCodec 0 (λ l. l .parent) (λ l p. linkOf (p, (l .file, l .name)))
+parent-in =
+    through linkOf linkFields (λ a. refl) (first (fileNoCodec ⊗ row (number 2) fileNameLimit) (whole fileNoCodec))
+
+counts-in : Field streamCodec countsCodec countsIn (λ s. s .counts) recounted
+counts-in =
+    through streamOf streamFields (λ a. refl)
+    (rest kindCodec (rest fileNoCodec (rest (row (number 2) streamNameLimit) (whole countsCodec))))
+
+handle-in : Field openCodec handleCodec 0 (λ o. o .handle) (λ o h. openOf (h, (o .file, (o .stream, (o .granted, o .share)))))
+handle-in =
+    through openOf openFields (λ a. refl)
+    (first (fileNoCodec ⊗ streamNoCodec ⊗ number 4 ⊗ number 4) (whole handleCodec))
+
+module _ (k : ℕ) where
+  pub parent-field : k < linkSlots
+      → Field tablesCodec fileNoCodec (linksAt + linkSize * k) (λ t. getD (t .volume .links) k zeroLink .parent)
+      (λ t p. let l = getD (t .volume .links) k zeroLink in putLink t (record { 0 = k }) (linkOf (p, (l .file, l .name))))
+  parent-field h = moved (add-zero _) (inner (link-field k h) parent-in)
+
+  pub counts-field : k < streamSlots
+      → Field tablesCodec countsCodec (streamsAt + streamSize * k + countsIn)
+      (λ t. getD (t .volume .streams) k zeroStream .counts)
+      (λ t c. putCounts t (record { 0 = k }) c)
+  counts-field h = inner (stream-field k h) counts-in
+
+  pub handle-field : k < openSlots
+      → Field tablesCodec handleCodec (opensAt + openSize * k) (λ t. getD (t .opens .rows) k zeroOpen .handle)
+      (λ t h. let o = getD (t .opens .rows) k zeroOpen in putOpen t k (openOf (h, (o .file, (o .stream, (o .granted, o .share))))))
+  handle-field h = moved (add-zero _) (inner (open-field k h) handle-in)

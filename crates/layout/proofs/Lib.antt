@@ -1,0 +1,8 @@
+-- The laws of the tables in bytes.
+pub mod Tests
+pub mod Records
+pub mod Tables
+pub mod Fields
+pub mod Typed
+pub mod Parts
+pub mod InPlace

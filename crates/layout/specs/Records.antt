@@ -1,0 +1,84 @@
+-- Each record in bytes: its fields in order, with their widths.
+use Rattle.base.specs.Base.{ℕ, Bool, List, accounts, fileNameLimit, streamNameLimit, FileNo, StreamNo, Handle, FileType, File, Link, ShareCounts, Stream, Open}
+use Rattle.codecs.specs.Codec.{Codec, number, cases, _⊗_, via, row}
+use Rattle.layout.specs.Kinds.{kinds, marks, kindOf, kindNumber, markOf, markNumber}
+
+abbrev pub kindCodec : Codec FileType
+kindCodec = cases kinds kindOf kindNumber
+
+abbrev pub markCodec : Codec Bool
+markCodec = cases marks markOf markNumber
+
+abbrev pub fileNoCodec : Codec FileNo
+fileNoCodec = via (λ n. record { 0 = n }) (λ f. f .0) (number 2)
+
+abbrev pub streamNoCodec : Codec StreamNo
+streamNoCodec = via (λ n. record { 0 = n }) (λ s. s .0) (number 2)
+
+abbrev pub handleCodec : Codec Handle
+handleCodec = via (λ n. record { 0 = n }) (λ h. h .0) (number 8)
+
+-- kind, attributes, a mask for each account
+abbrev pub fileCodec : Codec File
+fileCodec =
+    via
+    (λ p. record { «file_type» = p .0; attributes = p .1 .0; masks = p .1 .1 })
+    (λ f. (f .«file_type», (f .attributes, f .masks)))
+    (kindCodec ⊗ number 4 ⊗ row (number 4) accounts)
+
+-- parent, file, name
+abbrev pub linkOf : FileNo × (FileNo × List ℕ) → Link
+linkOf p = record { parent = p .0; file = p .1 .0; name = p .1 .1 }
+
+abbrev pub linkFields : Link → FileNo × (FileNo × List ℕ)
+linkFields l = (l .parent, (l .file, l .name))
+
+abbrev pub linkCodec : Codec Link
+linkCodec =
+    via linkOf linkFields
+    (fileNoCodec ⊗ fileNoCodec ⊗ row (number 2) fileNameLimit)
+
+-- the seven share counts
+abbrev pub countsCodec : Codec ShareCounts
+countsCodec =
+    via
+    (λ p.
+    record {
+      opens = p .0;
+      readers = p .1 .0;
+      writers = p .1 .1 .0;
+      deleters = p .1 .1 .1 .0;
+      «shared_read» = p .1 .1 .1 .1 .0;
+      «shared_write» = p .1 .1 .1 .1 .1 .0;
+      «shared_delete» = p .1 .1 .1 .1 .1 .1;
+    })
+    (λ c. (
+      c .opens,
+      (c .readers, (c .writers, (c .deleters, (c .«shared_read», (c .«shared_write», c .«shared_delete»))))),
+    ))
+    (number 2 ⊗ number 2 ⊗ number 2 ⊗ number 2 ⊗ number 2 ⊗ number 2 ⊗ number 2)
+
+-- kind, file, name, counts
+abbrev pub streamOf : FileType × (FileNo × (List ℕ × ShareCounts)) → Stream
+streamOf p = record { «stream_type» = p .0; file = p .1 .0; name = p .1 .1 .0; counts = p .1 .1 .1 }
+
+abbrev pub streamFields : Stream → FileType × (FileNo × (List ℕ × ShareCounts))
+streamFields s = (s .«stream_type», (s .file, (s .name, s .counts)))
+
+abbrev pub streamCodec : Codec Stream
+streamCodec =
+    via streamOf streamFields
+    (kindCodec ⊗ fileNoCodec ⊗ row (number 2) streamNameLimit ⊗ countsCodec)
+
+-- handle, file, stream, granted access, sharing mode
+abbrev pub openOf : Handle × (FileNo × (StreamNo × (ℕ × ℕ))) → Open
+openOf p =
+    record { handle = p .0; file = p .1 .0; stream = p .1 .1 .0; granted = p .1 .1 .1 .0; share = p .1 .1 .1 .1 }
+
+abbrev pub openFields : Open → Handle × (FileNo × (StreamNo × (ℕ × ℕ)))
+openFields o = (o .handle, (o .file, (o .stream, (o .granted, o .share))))
+
+abbrev pub openCodec : Codec Open
+openCodec =
+    via openOf openFields
+    (handleCodec ⊗ fileNoCodec ⊗ streamNoCodec ⊗ number 4 ⊗ number 4)

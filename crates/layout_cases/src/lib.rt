@@ -1,0 +1,1 @@
+// The dumps of docs/LAYOUT.md, held to the definitions by evaluation. No code.
