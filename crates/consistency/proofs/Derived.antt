@@ -1,11 +1,11 @@
 -- What follows from consistency: used slots by their numbers; and a free stream is all zero, its counts
 -- too, since no open names it.
-use Rattle.base.{specs.Base.{ℕ, _≤_, _<_, _≡_, true, false, List, map, length, any, zeroStream, zeroOpen, fileUsed, streamUsed, openUsed, BareStream, bare, bareUsed, bareAt, namespace, FileNo, StreamNo, File, Stream, Open, OpenTable, Volume}, proofs.Laws.{sym, _∙_, ap, arith, List·getD-map, List·getD-eq-default, not-both, fails-iff, none-kept-of}}
+use Rattle.base.{specs.Base.{ℕ, _≤_, _<_, _≡_, true, false, List, map, length, any, zeroStream, zeroOpen, fileUsed, streamUsed, openUsed, BareStream, bare, bareUsed, bareAt, namespace, FileNo, StreamNo, File, Stream, Open, OpenTable, Volume, zeroBare, streamSlots, getD, isUsed}, proofs.Laws.{_∙_, ap, arith, List·getD-map, List·getD-eq-default, not-both, fails-iff, none-kept-of}}
 use native.Mathlib.Decide.{decLt}
 use Rattle.sharing.{specs.Sharing.onStream, proofs.Counts.counts-none}
 use Rattle.tables.specs.Tables.{fileAt, streamAt}
-use Rattle.consistency.proofs.Numbered.{stream-iff}
-use Rattle.consistency.specs.{Relations.live, Good.GoodFile, Consistent.{FilesConsistent, GoodStreamOf, StreamsConsistent, openAt, OpensConsistent, Consistent}}
+use Rattle.consistency.proofs.{Numbered.stream-iff, Slots.slots-map}
+use Rattle.consistency.specs.{Relations.live, Good.GoodFile, Consistent.{FilesConsistent, GoodStreamOf, StreamsConsistent, openAt, OpensConsistent, Consistent}, Slots.Slots}
 
 -- used slots by their numbers
 pub file-good : {fs : List File} → FilesConsistent fs → (f : FileNo) → fileUsed (fileAt fs f) ≡ true → GoodFile (fileAt fs f)
@@ -32,21 +32,21 @@ free-unopened {ss} {next} {os} c s f =
     fails-iff (stream-iff (openAt os i .stream) s) .1
     (λ e. not-both (c .slots .usedGood i u .namesUsedStream) (ap (λ (n : StreamNo). bareUsed (bareAt ss n)) e ∙ f)))
 
--- a free stream's record is all zero
-pub free-stream-zero : {v : Volume} {t : OpenTable} → Consistent v t
-    → (s : StreamNo) → streamUsed (streamAt (v .streams) s) ≡ false → streamAt (v .streams) s ≡ zeroStream
-unfolding namespace bare bareAt bareUsed streamAt streamUsed
-free-stream-zero {v} {t} c s u = elim (decLt (s .0) (length (v .streams))) [ yes b ↦ inside b | no n ↦ past (omega arith) ]
+-- the slots of the streams, with their counts: a free one is all zero
+pub stream-slots : {v : Volume} {t : OpenTable} → Consistent v t
+    → Slots streamUsed zeroStream (λ s. GoodStreamOf (v .files) (bare s)) streamSlots (v .streams)
+unfolding namespace bare bareUsed bareAt streamAt streamUsed isUsed
+stream-slots {v} {t} c =
+    slots-map bare zeroStream (v .streams)
+    (λ i e. elim (decLt i (length (v .streams))) [ yes b ↦ inside i b e | no n ↦ past i (omega arith) ]) (c .streams .slots)
   where
-    free : bareUsed (bareAt (map bare (v .streams)) s) ≡ false
-    free = ap bareUsed (bare-at (v .streams) s) ∙ u
-
-    inside : s .0 < length (v .streams) → streamAt (v .streams) s ≡ zeroStream
-    inside b =
-        let rest = sym (bare-at (v .streams) s) ∙ c .streams .slots .freeZero (s .0) free in
+    inside : (i : ℕ) → i < length (v .streams) → bare (getD (v .streams) i zeroStream) ≡ zeroBare
+        → getD (v .streams) i zeroStream ≡ zeroStream
+    inside i b e =
+        let s : StreamNo = record { 0 = i } in
+        let free : bareUsed (bareAt (map bare (v .streams)) s) ≡ false = ap bareUsed (bare-at (v .streams) s ∙ e) in
         let counts = c .counts s b ∙ counts-none s (live (t .rows)) (free-unopened (c .opens) s free) in
-        λ i.
-        record { file = rest i .file; «stream_type» = rest i .streamType; name = rest i .name; counts = counts i }
+        λ j. record { file = e j .file; «stream_type» = e j .streamType; name = e j .name; counts = counts j }
 
-    past : length (v .streams) ≤ s .0 → streamAt (v .streams) s ≡ zeroStream
-    past b = List·getD-eq-default (v .streams) zeroStream {n = s .0} b
+    past : (i : ℕ) → length (v .streams) ≤ i → getD (v .streams) i zeroStream ≡ zeroStream
+    past i b = List·getD-eq-default (v .streams) zeroStream {n = i} b

@@ -1,6 +1,6 @@
 -- The laws of a table's slots: a test decides them; when one is set, and when other things are asked of a used one, they
--- stay as they should be.
-use Rattle.base.{specs.Base.{ℕ, _<_, _≡_, Bool, true, false, List, _↔_, _⊎_, inl, inr, getD, set, keep, pairs}, proofs.Laws.{refl, sym, _∙_, arith, length-set, by-cases, cond-true, cond-false, not-both, and-iff, eqb-iff, all-of, all-slots, pairs-keep-at, pairs-keep-of, set-each, set-pairs}}
+-- stay as they should be; under a map.
+use Rattle.base.{specs.Base.{ℕ, _<_, _≡_, Bool, true, false, List, _↔_, _⊎_, inl, inr, getD, set, keep, pairs, map}, proofs.Laws.{refl, sym, _∙_, arith, length-set, by-cases, cond-true, cond-false, not-both, and-iff, eqb-iff, all-of, all-slots, pairs-keep-at, pairs-keep-of, set-each, set-pairs, List·getD-map, length-map, ap, subst}}
 use Rattle.lists.proofs.Places.{used-below}
 use Rattle.consistency.specs.Slots.{Slots, EveryTwo, slotTest, slotsTest}
 
@@ -61,6 +61,18 @@ module _ {A : Type 0} {used : A → Bool} {zero : A} {Good : A → Type 0} {n : 
   -- a used slot is below the table's size
   pub slots-below : used zero ≡ false → (i : ℕ) → used (getD xs i zero) ≡ true → i < n
   slots-below free i u = omega (arith, used-below used zero free xs i u, s .size)
+
+-- under a map: slots that are so by what is read of them are so themselves, if one that reads as zero is zero
+module _ {A B : Type 0} (f : A → B) {used : B → Bool} (zero : A) {Good : B → Type 0} {n : ℕ} (xs : List A) where
+  pub slots-map : ((i : ℕ) → f (getD xs i zero) ≡ f zero → getD xs i zero ≡ zero) → Slots used (f zero) Good n (map f xs)
+      → Slots (λ x. used (f x)) zero (λ x. Good (f x)) n xs
+  slots-map zeros s =
+      let at : (i : ℕ) → getD (map f xs) i (f zero) ≡ f (getD xs i zero) = λ i. List·getD-map f xs i zero in
+      record {
+        size = sym (length-map xs f) ∙ s .size;
+        freeZero = λ i u. zeros i (sym (at i) ∙ s .freeZero i (ap used (at i) ∙ u));
+        usedGood = λ i u. subst Good (at i) (s .usedGood i (ap used (at i) ∙ u));
+      }
 
 -- every two used slots, by a test
 module _ {A : Type 0} (used : A → Bool) (zero : A) (free : used zero ≡ false) (r : A → A → Bool) (R : A → A → Type 0)

@@ -4,6 +4,7 @@ use Rattle.records.proofs.Lengths.{streams-length}
 use Rattle.stream_lookup.proofs.find_stream.Statement.{statement}
 use Rattle.stream_lookup.specs.{StreamLookup.{streamMatches, streamNumber, findStream, foundStream}, declared.FoundStream.FoundStream}
 use Rattle.stream_lookup.proofs.find_stream.Tie as tie
+use Rattle.records.specs.Sizes.{streamSlots}
 
 abbrev found : Option ℕ → FoundStream
 found n = foundStream (streamNumber n)
@@ -16,7 +17,7 @@ Inv-loop file name fold v i₀ i =
     foundStream (findStream (namespace v) fold file name) ≡ answerFrom found (matches fold file name) (v .streams) i
 
 abbrev μ-loop : tie.MeasureT-loop
-μ-loop file name fold v i₀ i = 256 - i
+μ-loop file name fold v i₀ i = streamSlots - i
 
 loop-holds : tie.Need-loop-holds Inv-loop μ-loop
 unfolding findStream first namespace

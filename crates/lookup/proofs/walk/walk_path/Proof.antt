@@ -13,13 +13,13 @@ abbrev Inv-loop : tie.InvT-loop
 Inv-loop path fold v name dir at i₀ i = SearchedTo v fold dir name i
 
 abbrev μ-loop : tie.MeasureT-loop
-μ-loop path fold v name dir at i₀ i = 192 - i
+μ-loop path fold v name dir at i₀ i = linkSlots - i
 
 abbrev Inv-loop2 : tie.InvT-loop2
 Inv-loop2 path fold v parents name dir at part component found₀ i₀ found i = (found ≡ Missing) × SearchedTo v fold dir component i
 
 abbrev μ-loop2 : tie.MeasureT-loop2
-μ-loop2 path fold v parents name dir at part component found₀ i₀ found i = 192 - i
+μ-loop2 path fold v parents name dir at part component found₀ i₀ found i = linkSlots - i
 
 abbrev Inv-components : tie.InvT-components
 Inv-components path fold v parents name dir₀ at₀ dir at =
