@@ -80,6 +80,14 @@ unfolding decodeRow
 row-count c zero bs = refl
 row-count c (suc n) bs = ap suc (row-count c n (drop (c .size) bs))
 
+-- what holds of every value read, and of the default, holds at each place of a row
+pub decoded : {A : Type 0} (c : Codec A) (z : A) (P : A → Type 0) → ((bs : List ℕ) → P (c .decode bs)) → P z → (n k : ℕ) (bs : List ℕ)
+    → P (getD (decodeRow c n bs) k z)
+unfolding decodeRow
+decoded c z P h d zero k bs = d
+decoded c z P h d (suc n) zero bs = h (take (c .size) bs)
+decoded c z P h d (suc n) (suc k) bs = decoded c z P h d n k (drop (c .size) bs)
+
 module _ {A : Type 0} {c : Codec A} {F : A → Type 0} (C : Lawful c F) where
   row-long : (xs : List A) → Each F xs → length (encodeRow c xs) ≡ length xs * c .size
   unfolding encodeRow Each

@@ -3,3 +3,4 @@ pub mod Bytes
 pub mod Laws
 pub mod Fields
 pub mod Rows
+pub mod Standing

@@ -2,7 +2,9 @@
 pub mod Tests
 pub mod Records
 pub mod Tables
+pub mod Lengths
 pub mod Fields
 pub mod Typed
 pub mod Parts
 pub mod InPlace
+pub mod Stands

@@ -1,10 +1,9 @@
 -- `stream_lookup::find_stream` meets its contract. The invariant: the answer is what the rest of the table gives.
-use Rattle.base.{specs.Base.{ℕ, _-_, _≡_, Bool, List, Option, first, namespace, bare, FileNo, Stream}, proofs.Laws.{sym, ap, _∙_, arith, needs, answerFrom, answer-here, answer-next, answer-none, first-map}}
+use Rattle.base.{specs.Base.{ℕ, _-_, _≡_, Bool, List, Option, first, namespace, bare, FileNo, Stream, streamSlots}, proofs.Laws.{sym, ap, _∙_, arith, needs, answerFrom, answer-here, answer-next, answer-none, first-map}}
 use Rattle.records.proofs.Lengths.{streams-length}
 use Rattle.stream_lookup.proofs.find_stream.Statement.{statement}
 use Rattle.stream_lookup.specs.{StreamLookup.{streamMatches, streamNumber, findStream, foundStream}, declared.FoundStream.FoundStream}
 use Rattle.stream_lookup.proofs.find_stream.Tie as tie
-use Rattle.records.specs.Sizes.{streamSlots}
 
 abbrev found : Option ℕ → FoundStream
 found n = foundStream (streamNumber n)
