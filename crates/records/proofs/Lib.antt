@@ -3,3 +3,4 @@ pub mod Checked
 pub mod Arrays
 pub mod Lengths
 pub mod Elements
+pub mod Seen
