@@ -192,6 +192,11 @@ pub moved : {A B : Type 0} {c : Codec A} {d : Codec B} {at at′ : ℕ} {g : A �
     → Field c d at g p → Field c d at′ g p
 moved {c = c} {d = d} {g = g} {p = p} e f = subst (λ (k : ℕ). Field c d k g p) e f
 
+-- a field of a field that stands first in it
+pub inner-first : {A B D : Type 0} {c : Codec A} {d : Codec B} {e : Codec D} {at : ℕ} {g : A → B} {p : A → B → A} {g′ : B → D} {p′ : B → D → B}
+    → Field c d at g p → Field d e 0 g′ p′ → Field c e at (λ x. g′ (g x)) (λ x y. p x (p′ (g x) y))
+inner-first f f′ = moved (add-zero _) (inner f f′)
+
 -- past a row's end stands the default, and nothing is set
 pub row-past : {A : Type 0} (c : Codec A) (z : A) (n k : ℕ) (bs : List ℕ) → n ≤ k → getD (decodeRow c n bs) k z ≡ z
 row-past c z n k bs h = List·getD-eq-default (decodeRow c n bs) z {n = k} (rw row-count h)

@@ -1,8 +1,7 @@
 -- Where each record and field of the tables stands.
-use Rattle.base.{specs.Base.{ℕ, _+_, _*_, _<_, _≡_, getD, fileNameLimit, streamNameLimit, fileSlots, linkSlots, streamSlots, openSlots, zeroFile, zeroLink, zeroStream, zeroOpen}, proofs.Laws.{refl, arith}}
-use native.Mathlib.Nat.{add-zero}
+use Rattle.base.{specs.Base.{ℕ, _+_, _*_, _<_, _≡_, getD, set, accounts, fileNameLimit, streamNameLimit, fileSlots, linkSlots, streamSlots, openSlots, zeroFile, zeroLink, zeroStream, zeroOpen}, proofs.Laws.{refl, arith}}
 use Rattle.codecs.{specs.{Codec.{number, _⊗_, row}, Field.Field}, proofs.Fields.{whole, first, rest, slot, through, inner, moved}}
-use Rattle.layout.specs.{Records.{kindCodec, fileNoCodec, streamNoCodec, countsCodec, linkOf, linkFields, streamOf, streamFields, openOf, openFields, markCodec, handleCodec, fileCodec, linkCodec, streamCodec, openCodec}, Layout.{tablesCodec, parts, joined, filesCodec, linksCodec, streamsCodec, opensCodec, fileSize, linkSize, streamSize, openSize, nextAt, filesAt, linksAt, streamsAt, opensAt, countsIn}, Puts.{putMark, putNext, putFile, putLink, putStream, putOpen, recounted, putCounts}}
+use Rattle.layout.specs.{Records.{kindCodec, fileNoCodec, streamNoCodec, countsCodec, fileOf, fileFields, linkOf, linkFields, streamOf, streamFields, openOf, openFields, markCodec, handleCodec, fileCodec, linkCodec, streamCodec, openCodec}, Layout.{tablesCodec, parts, joined, filesCodec, linksCodec, streamsCodec, opensCodec, fileSize, linkSize, streamSize, openSize, nextAt, filesAt, linksAt, streamsAt, opensAt, countsIn}, Puts.{putMark, putNext, putFile, putLink, putStream, putOpen, recounted, putCounts}}
 
 pub mark-field : Field tablesCodec markCodec 0 (λ t. t .volume .«read_only») putMark
 mark-field =
@@ -55,33 +54,56 @@ module _ (k : ℕ) where
       (rest filesCodec (rest linksCodec (rest streamsCodec (slot openCodec zeroOpen openSlots k h)))))))
 
 -- fields of the records
-parent-in : Field linkCodec fileNoCodec 0 (λ l. l .parent) (λ l p. linkOf (p, (l .file, l .name)))
+pub file-type-in : Field fileCodec kindCodec 0 (λ f. f .«file_type») (λ f t. fileOf (t, (f .attributes, f .masks)))
+file-type-in =
+    through fileOf fileFields (λ a. refl) (first (number 4 ⊗ row (number 4) accounts) (whole kindCodec))
+
+pub parent-in : Field linkCodec fileNoCodec 0 (λ l. l .parent) (λ l p. linkOf (p, (l .file, l .name)))
 parent-in =
     through linkOf linkFields (λ a. refl) (first (fileNoCodec ⊗ row (number 2) fileNameLimit) (whole fileNoCodec))
+
+pub link-file-in : Field linkCodec fileNoCodec 2 (λ l. l .file) (λ l f. linkOf (l .parent, (f, l .name)))
+link-file-in =
+    through linkOf linkFields (λ a. refl)
+    (rest fileNoCodec (first (row (number 2) fileNameLimit) (whole fileNoCodec)))
+
+pub link-unit-in : Field linkCodec (number 2) 4 (λ l. getD (l .name) 0 0) (λ l u. linkOf (l .parent, (l .file, set (l .name) 0 u)))
+link-unit-in =
+    through linkOf linkFields (λ a. refl)
+    (rest fileNoCodec (rest fileNoCodec (slot (number 2) 0 fileNameLimit 0 (omega arith))))
+
+pub stream-type-in : Field streamCodec kindCodec 0 (λ s. s .«stream_type») (λ s t. streamOf (t, (s .file, (s .name, s .counts))))
+stream-type-in =
+    through streamOf streamFields (λ a. refl)
+    (first (fileNoCodec ⊗ row (number 2) streamNameLimit ⊗ countsCodec) (whole kindCodec))
+
+pub stream-file-in : Field streamCodec fileNoCodec 2 (λ s. s .file) (λ s f. streamOf (s .«stream_type», (f, (s .name, s .counts))))
+stream-file-in =
+    through streamOf streamFields (λ a. refl)
+    (rest kindCodec (first (row (number 2) streamNameLimit ⊗ countsCodec) (whole fileNoCodec)))
 
 counts-in : Field streamCodec countsCodec countsIn (λ s. s .counts) recounted
 counts-in =
     through streamOf streamFields (λ a. refl)
     (rest kindCodec (rest fileNoCodec (rest (row (number 2) streamNameLimit) (whole countsCodec))))
 
-handle-in : Field openCodec handleCodec 0 (λ o. o .handle) (λ o h. openOf (h, (o .file, (o .stream, (o .granted, o .share)))))
+pub handle-in : Field openCodec handleCodec 0 (λ o. o .handle) (λ o h. openOf (h, (o .file, (o .stream, (o .granted, o .share)))))
 handle-in =
     through openOf openFields (λ a. refl)
     (first (fileNoCodec ⊗ streamNoCodec ⊗ number 4 ⊗ number 4) (whole handleCodec))
 
-module _ (k : ℕ) where
-  pub parent-field : k < linkSlots
-      → Field tablesCodec fileNoCodec (linksAt + linkSize * k) (λ t. getD (t .volume .links) k zeroLink .parent)
-      (λ t p. let l = getD (t .volume .links) k zeroLink in putLink t (record { 0 = k }) (linkOf (p, (l .file, l .name))))
-  parent-field h = moved (add-zero _) (inner (link-field k h) parent-in)
+pub open-file-in : Field openCodec fileNoCodec 8 (λ o. o .file) (λ o f. openOf (o .handle, (f, (o .stream, (o .granted, o .share)))))
+open-file-in =
+    through openOf openFields (λ a. refl)
+    (rest handleCodec (first (streamNoCodec ⊗ number 4 ⊗ number 4) (whole fileNoCodec)))
 
-  pub counts-field : k < streamSlots
-      → Field tablesCodec countsCodec (streamsAt + streamSize * k + countsIn)
-      (λ t. getD (t .volume .streams) k zeroStream .counts)
-      (λ t c. putCounts t (record { 0 = k }) c)
-  counts-field h = inner (stream-field k h) counts-in
+pub open-stream-in : Field openCodec streamNoCodec 10 (λ o. o .stream) (λ o s. openOf (o .handle, (o .file, (s, (o .granted, o .share)))))
+open-stream-in =
+    through openOf openFields (λ a. refl)
+    (rest handleCodec (rest fileNoCodec (first (number 4 ⊗ number 4) (whole streamNoCodec))))
 
-  pub handle-field : k < openSlots
-      → Field tablesCodec handleCodec (opensAt + openSize * k) (λ t. getD (t .opens .rows) k zeroOpen .handle)
-      (λ t h. let o = getD (t .opens .rows) k zeroOpen in putOpen t k (openOf (h, (o .file, (o .stream, (o .granted, o .share))))))
-  handle-field h = moved (add-zero _) (inner (open-field k h) handle-in)
+pub counts-field : (k : ℕ) → k < streamSlots
+    → Field tablesCodec countsCodec (streamsAt + streamSize * k + countsIn)
+    (λ t. getD (t .volume .streams) k zeroStream .counts)
+    (λ t c. putCounts t (record { 0 = k }) c)
+counts-field k h = inner (stream-field k h) counts-in

@@ -19,11 +19,15 @@ abbrev pub handleCodec : Codec Handle
 handleCodec = via (λ n. record { 0 = n }) (λ h. h .0) (number 8)
 
 -- kind, attributes, a mask for each account
+abbrev pub fileOf : FileType × (ℕ × List ℕ) → File
+fileOf p = record { «file_type» = p .0; attributes = p .1 .0; masks = p .1 .1 }
+
+abbrev pub fileFields : File → FileType × (ℕ × List ℕ)
+fileFields f = (f .«file_type», (f .attributes, f .masks))
+
 abbrev pub fileCodec : Codec File
 fileCodec =
-    via
-    (λ p. record { «file_type» = p .0; attributes = p .1 .0; masks = p .1 .1 })
-    (λ f. (f .«file_type», (f .attributes, f .masks)))
+    via fileOf fileFields
     (kindCodec ⊗ number 4 ⊗ row (number 4) accounts)
 
 -- parent, file, name

@@ -12,6 +12,7 @@ use little_endian::write_u16;
 use little_endian::write_u32;
 use records::File;
 use records::FileNo;
+use records::FileType;
 use records::sizes::ACCOUNTS;
 use records::sizes::FILE_SLOTS;
 use records::slots::ZERO_FILE;
@@ -71,5 +72,18 @@ pub fn write_file(b: &mut [u8], n: FileNo, f: File)
     if i < FILE_SLOTS {
         put_file(b, FILES_AT + FILE_SIZE * i, f);
         return;
+    }
+}
+
+// A file's kind alone.
+pub fn read_file_type(b: &[u8], n: FileNo) -> FileType
+    requires { ⌜ length (now b) ≡ tablesSize ⌝ }
+    ensures { λ r. ⌜ r ≡ fileAt (decode (now (b .entry)) .volume .files) n .«file_type» ⌝ }
+{
+    let i = n.0 as usize;
+    if i < FILE_SLOTS {
+        kind_of(read_u16(b, FILES_AT + FILE_SIZE * i))
+    } else {
+        FileType::Unused
     }
 }

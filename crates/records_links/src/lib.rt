@@ -20,6 +20,7 @@ ghost use Rattle.little_endian.specs.Writes.{Wrote};
 ghost use Rattle.layout.specs.Records.{linkCodec};
 ghost use Rattle.layout.specs.Layout.{linkSize, tablesSize, decode, Changed};
 ghost use Rattle.layout.specs.Puts.{putLink};
+ghost use Rattle.base.specs.Base.{linkUsed};
 ghost use Rattle.tables.specs.Tables.{linkAt};
 
 fn link_from(b: &[u8], at: usize) -> Link
@@ -76,5 +77,31 @@ pub fn read_parent(b: &[u8], n: LinkNo) -> FileNo
         FileNo(read_u16(b, LINKS_AT + LINK_SIZE * i))
     } else {
         FileNo(0)
+    }
+}
+
+// A link's file alone.
+pub fn read_link_file(b: &[u8], n: LinkNo) -> FileNo
+    requires { ⌜ length (now b) ≡ tablesSize ⌝ }
+    ensures { λ r. ⌜ r ≡ linkAt (decode (now (b .entry)) .volume .links) n .file ⌝ }
+{
+    let i = n.0 as usize;
+    if i < LINK_SLOTS {
+        FileNo(read_u16(b, LINKS_AT + LINK_SIZE * i + 2))
+    } else {
+        FileNo(0)
+    }
+}
+
+// Whether a link's slot is used: by the first unit of its name alone.
+pub fn read_link_used(b: &[u8], n: LinkNo) -> bool
+    requires { ⌜ length (now b) ≡ tablesSize ⌝ }
+    ensures { λ r. ⌜ r ≡ linkUsed (linkAt (decode (now (b .entry)) .volume .links) n) ⌝ }
+{
+    let i = n.0 as usize;
+    if i < LINK_SLOTS {
+        read_u16(b, LINKS_AT + LINK_SIZE * i + 4) != 0
+    } else {
+        false
     }
 }

@@ -80,3 +80,27 @@ pub fn read_handle(b: &[u8], n: usize) -> Handle
         Handle(0)
     }
 }
+
+// An open's file alone.
+pub fn read_open_file(b: &[u8], n: usize) -> FileNo
+    requires { ⌜ length (now b) ≡ tablesSize ⌝ }
+    ensures { λ r. ⌜ r ≡ rowAt (decode (now (b .entry)) .opens) n .file ⌝ }
+{
+    if n < OPEN_SLOTS {
+        FileNo(read_u16(b, OPENS_AT + OPEN_SIZE * n + 8))
+    } else {
+        FileNo(0)
+    }
+}
+
+// An open's stream alone.
+pub fn read_open_stream(b: &[u8], n: usize) -> StreamNo
+    requires { ⌜ length (now b) ≡ tablesSize ⌝ }
+    ensures { λ r. ⌜ r ≡ rowAt (decode (now (b .entry)) .opens) n .stream ⌝ }
+{
+    if n < OPEN_SLOTS {
+        StreamNo(read_u16(b, OPENS_AT + OPEN_SIZE * n + 10))
+    } else {
+        StreamNo(0)
+    }
+}

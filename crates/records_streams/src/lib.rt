@@ -10,6 +10,7 @@ use layout::kind_of;
 use little_endian::read_u16;
 use little_endian::write_u16;
 use records::FileNo;
+use records::FileType;
 use records::ShareCounts;
 use records::Stream;
 use records::StreamNo;
@@ -129,5 +130,31 @@ pub fn write_counts(b: &mut [u8], n: StreamNo, c: ShareCounts)
     if i < STREAM_SLOTS {
         put_counts(b, STREAMS_AT + STREAM_SIZE * i + COUNTS_IN, c);
         return;
+    }
+}
+
+// A stream's kind alone.
+pub fn read_stream_type(b: &[u8], n: StreamNo) -> FileType
+    requires { ⌜ length (now b) ≡ tablesSize ⌝ }
+    ensures { λ r. ⌜ r ≡ streamAt (decode (now (b .entry)) .volume .streams) n .«stream_type» ⌝ }
+{
+    let i = n.0 as usize;
+    if i < STREAM_SLOTS {
+        kind_of(read_u16(b, STREAMS_AT + STREAM_SIZE * i))
+    } else {
+        FileType::Unused
+    }
+}
+
+// A stream's file alone.
+pub fn read_stream_file(b: &[u8], n: StreamNo) -> FileNo
+    requires { ⌜ length (now b) ≡ tablesSize ⌝ }
+    ensures { λ r. ⌜ r ≡ streamAt (decode (now (b .entry)) .volume .streams) n .file ⌝ }
+{
+    let i = n.0 as usize;
+    if i < STREAM_SLOTS {
+        FileNo(read_u16(b, STREAMS_AT + STREAM_SIZE * i + 2))
+    } else {
+        FileNo(0)
     }
 }

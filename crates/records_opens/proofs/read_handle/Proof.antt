@@ -1,6 +1,7 @@
 -- `records_opens::read_handle` meets its contract: the handle stands first.
 use Rattle.base.{proofs.Laws.{needs, ap, sym, arith}, specs.Base.Open}
-use Rattle.layout.proofs.{Fields.handle-field, InPlace.{in-place, open-past}}
+use Rattle.codecs.proofs.Fields.{inner-first}
+use Rattle.layout.proofs.{Fields.{open-field, handle-in}, InPlace.{in-place, open-past}}
 use Rattle.open_table.specs.Rows.{rowAt}
 use Rattle.records_opens.proofs.read_handle.Statement.{statement}
 use Rattle.records_opens.proofs.read_handle.Tie as tie
@@ -9,7 +10,7 @@ returns : tie.Need-returns
 unfolding rowAt
 returns c =
     let a = c .before .before .before .args in
-    rw (c .read-u64 .ensures) (sym (in-place (handle-field (a .n) (omega arith)) (a .b .now) (omega arith)))
+    rw (c .read-u64 .ensures) (sym (in-place (inner-first (open-field (a .n) (omega arith)) handle-in) (a .b .now) (omega arith)))
 
 returns-2 : tie.Need-returns-2
 unfolding rowAt
