@@ -1,10 +1,7 @@
--- The table of opens: a row by its place, the lowest free row (step 12), and whether a file has an open (step 10).
-use Rattle.base.specs.Base.{ℕ, Bool, List, Option, none, some, eqb, getD, any, firstFree, keep, openUsed, zeroOpen, FileNo, Open, OpenTable}
+-- The table of opens: the lowest free row (step 12), and whether a file has an open (step 10).
+use Rattle.base.specs.Base.{ℕ, Bool, List, Option, none, some, eqb, any, firstFree, openUsed, FileNo, Open, OpenTable}
+use Rattle.tables.specs.Tables.{live}
 use Rattle.open_table.specs.declared.OpenSlot.{OpenSlot}
-
--- past the table's end stands the record of a free row
-unfoldable pub rowAt : OpenTable → ℕ → Open
-rowAt t n = getD (t .rows) n zeroOpen
 
 -- the place that a search finds, as the code answers it
 unfoldable pub openSlot : Option ℕ → OpenSlot
@@ -19,4 +16,4 @@ unfoldable pub anyOnFile : FileNo → List Open → Bool
 anyOnFile f os = any (λ o. eqb (o .file .0) (f .0)) os
 
 unfoldable pub fileHasOpen : OpenTable → FileNo → Bool
-fileHasOpen t f = anyOnFile f (keep openUsed (t .rows))
+fileHasOpen t f = anyOnFile f (live (t .rows))

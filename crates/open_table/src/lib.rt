@@ -1,24 +1,16 @@
-// The table of opens: a row by its place, the lowest free row, and whether a file has an open.
+// The table of opens: the lowest free row, and whether a file has an open.
 use records::FileNo;
-use records::Open;
 use records::OpenTable;
 use records::sizes::OPEN_SLOTS;
-use records::slots::ZERO_OPEN;
 use records::slots::open_used;
 ghost use mathlib.Core.Path.{_≡_};
-ghost use Rattle.open_table.specs.Rows.{rowAt, freeRow, fileHasOpen};
+ghost use Rattle.open_table.specs.Rows.{freeRow, fileHasOpen};
 
 // What a search for a free row finds: the lowest one, or that the table is full. A row has no number of its own kind:
 // handles come from elsewhere.
 pub enum OpenSlot {
     At(usize),
     Full,
-}
-
-pub fn open_at(t: OpenTable, n: usize) -> Open
-    ensures { λ r. ⌜ r ≡ rowAt t n ⌝ }
-{
-    if n < OPEN_SLOTS { t.rows[n] } else { ZERO_OPEN }
 }
 
 pub fn free_open(t: OpenTable) -> OpenSlot

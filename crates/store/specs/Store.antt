@@ -1,10 +1,10 @@
 -- The object store (the paper's desk): open, close and set_read_only on the tables. A refusal leaves every table as it
 -- was.
 use Rattle.base.specs.Base.{ℕ, suc, Bool, not, _&&_, List, [], _∷_, Option, none, some, eqb, set, any, find, first, firstFree, writes, zeroOpen, openUsed, BareStream, bare, withCounts, namespace, Checked, passed, _>>=_, _>>_, refuseIf, Tables, Step, done, concluded, FileCorruptError, StreamNo, Handle, ShareCounts, Stream, Open, Volume, Request}
-use Rattle.consistency.specs.{Relations.live, Test.consistent}
+use Rattle.consistency.specs.Test.{consistent}
 use Rattle.open_table.specs.Rows.{anyOnFile}
 use Rattle.sharing.specs.Sharing.{shareCheck, withOpen, withoutOpen}
-use Rattle.tables.specs.Tables.{streamAt}
+use Rattle.tables.specs.Tables.{streamAt, live}
 use Rattle.store.specs.Complete.{View, Change, Decision, newOpen, openReply, decide, Closing, decideClose}
 
 -- an open that has the handle

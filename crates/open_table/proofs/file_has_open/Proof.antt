@@ -1,6 +1,7 @@
 -- `open_table::file_has_open` meets its contract. The invariant: what is asked is what the rest of the table says.
 use Rattle.base.{specs.Base.{_-_, _≡_, Bool, _&&_, eqb, drop, any, openSlots, openUsed, zeroOpen, FileNo, Open}, proofs.Laws.{sym, _∙_, ⊎-elim, arith, needs, any-here, any-next, any-none, any-keep}}
 use Rattle.records.proofs.Lengths.{rows-length}
+use Rattle.tables.specs.Tables.{live}
 use Rattle.open_table.proofs.file_has_open.Statement.{statement}
 use Rattle.open_table.specs.Rows.{anyOnFile, fileHasOpen}
 use Rattle.open_table.proofs.file_has_open.Tie as tie
@@ -15,7 +16,7 @@ abbrev μ-loop : tie.MeasureT-loop
 μ-loop f t i₀ i = openSlots - i
 
 loop-holds : tie.Need-loop-holds Inv-loop μ-loop
-unfolding fileHasOpen anyOnFile
+unfolding fileHasOpen anyOnFile live
 loop-holds c = any-keep openUsed (λ o. eqb (o .file .0) (c .args .f .0)) (c .args .t1 .rows)
 
 mul-o : tie.Need-mul-o Inv-loop μ-loop
