@@ -8,6 +8,9 @@ use records::constants::OVERWRITE;
 use records::constants::OVERWRITE_IF;
 use records::constants::SUPERSEDE;
 ghost use mathlib.Core.Path.{_≡_};
+ghost use mathlib.Core.List.{[], _∷_};
+ghost use Rattle.lists.specs.Lists.{oneOf};
+ghost use Rattle.records.specs.Constants.{supersede, overwrite, overwriteIf};
 ghost use Rattle.store.specs.Request.{wantsDirectory, wantsFile, badParameters, badAccess, wantsBoth, writesVolume};
 
 // A directory is asked for.
@@ -25,7 +28,9 @@ pub fn wants_file(r: Request) -> bool
 }
 
 // The disposition replaces what is there: supersede, overwrite, overwrite-if.
-fn replaces(disposition: u32) -> bool {
+fn replaces(disposition: u32) -> bool
+    ensures { λ x. ⌜ x ≡ oneOf disposition (supersede ∷ overwrite ∷ overwriteIf ∷ []) ⌝ }
+{
     (disposition == SUPERSEDE) | (disposition == OVERWRITE) | (disposition == OVERWRITE_IF)
 }
 
@@ -61,5 +66,8 @@ pub fn wants_both(r: Request) -> bool
 pub fn writes_volume(r: Request) -> bool
     ensures { λ x. ⌜ x ≡ writesVolume r ⌝ }
 {
-    (r.disposition == CREATE) | replaces(r.disposition)
+    (r.disposition == SUPERSEDE)
+        | (r.disposition == CREATE)
+        | (r.disposition == OVERWRITE)
+        | (r.disposition == OVERWRITE_IF)
 }
