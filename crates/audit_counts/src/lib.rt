@@ -13,8 +13,8 @@ ghost use lib.ListN.{getD};
 ghost use Rattle.records.specs.Sizes.{streamSlots};
 ghost use Rattle.records.specs.Slots.{zeroCounts};
 ghost use Rattle.sharing.specs.Sharing.{countsOf};
-ghost use Rattle.consistency.specs.Relations.{live};
 ghost use Rattle.consistency.specs.Test.{sameCounts, countsTest};
+ghost use Rattle.tables.specs.Tables.{live};
 
 fn same_counts(c: ShareCounts, d: ShareCounts) -> bool
     ensures { λ r. ⌜ r ≡ sameCounts c d ⌝ }

@@ -1,6 +1,7 @@
 -- The audit of the open table, row by row, as the test over the whole table.
 use Rattle.base.{specs.Base.{ℕ, _≤_, _<_, _≡_, Bool, false, _&&_, List, map, length, getD, all, pairs, openSlots, openUsed, BareStream, zeroBare, bareAt, bare, Stream, Open}, proofs.Laws.{sym, _∙_, ap, ⊎-elim, arith, length-map, List·getD-map, eq-eqb, le-leb, refuted, getD-default}}
-use Rattle.consistency.{specs.{Relations.live, Slots.{slotTest, slotsTest}, Good.{goodOpen, isZeroOpen, handlesDiffer}, Test.{goodOpenOf, opensTest}}, proofs.{Slots.slot-passes, Streams.stream-in, Opens.open-decides}}
+use Rattle.consistency.{specs.{Slots.{slotTest, slotsTest}, Good.{goodOpen, isZeroOpen, handlesDiffer}, Test.{goodOpenOf, opensTest}}, proofs.{Slots.slot-passes, Streams.stream-in, Opens.open-decides}}
+use Rattle.tables.specs.Tables.{live}
 
 -- a row, used or free
 abbrev pub openTest : List BareStream → ℕ → Open → Bool

@@ -13,10 +13,10 @@ ghost use mathlib.Core.Path.{_≡_};
 ghost use Rattle.lists.specs.Lists.{pairs};
 ghost use Rattle.records.specs.Slots.{openUsed};
 ghost use Rattle.records.specs.Namespace.{bare, namespace};
-ghost use Rattle.consistency.specs.Relations.{live};
 ghost use Rattle.consistency.specs.Slots.{slotTest};
 ghost use Rattle.consistency.specs.Good.{goodOpen, isZeroOpen, handlesDiffer};
 ghost use Rattle.consistency.specs.Test.{opensTest};
+ghost use Rattle.tables.specs.Tables.{live};
 
 // What a free slot has beside its handle is zero.
 fn is_zero_open(o: Open) -> bool

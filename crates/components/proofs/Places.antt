@@ -1,11 +1,16 @@
 -- Laws of the places that the code finds in a path: the next component, the components before it, and the first sign in a
 -- part.
 use Rattle.base.{specs.Base.{ℕ, zero, suc, _+_, _-_, _≤_, _<_, _≡_, false, List, [], _∷_, _++_, length, take, drop, replicate, slice, isEmpty}, proofs.Laws.{refl, sym, ap, _∙_, arith, length-drop, take-all}}
-use lib.Seq.{drop-drop, take-add}
+use lib.Seq.{drop-drop, take-add, take-take}
 use native.Mathlib.Nat.{zero-add, add-zero}
 use Rattle.units.specs.Units.{backslash}
 use Rattle.components.proofs.{Leading.{leading-le, leading-rest, leading-signs, slice-start, slice-take, slice-drop}, Splitting.{split-one, split-more, not-empty, components-skip, components-first, components-none, components-single, components-trail, signs-alone, Open, open-signs, open-trail}}
-use Rattle.components.specs.{Components.{split, components}, Positions.{leading, isSign, noSign, placeOf, placeAfter, partOf, nextComponent}}
+use Rattle.components.specs.{Components.{split, components}, Positions.{leading, isSign, noSign, placeOf, placeAfter, partOf, nextComponent}, declared.Part.Part}
+
+-- a part that stands in the units before a place
+pub part-before : (path : List ℕ) (end : ℕ) (p : Part) → p .end ≤ end → partOf (take end path) p ≡ partOf path p
+unfolding partOf
+part-before path end p h = ap (drop (p .start)) (take-take (p .end) end path h)
 
 module _ (path : List ℕ) (at : ℕ) where
   abbrev pub nextStart : ℕ

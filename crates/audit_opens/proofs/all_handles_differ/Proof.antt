@@ -1,8 +1,9 @@
 -- `audit_opens::all_handles_differ` meets its contract. The invariants: what is asked is what the rows from i on say;
 -- in a used row's own loop, that it agrees with the rows from j on, and what those after it say.
 use Rattle.base.{specs.Base.{_-_, _+_, _≡_, Bool, _&&_, getD, drop, all, keep, pairs, openSlots, openUsed, zeroOpen}, proofs.Laws.{refl, sym, _∙_, ap, ⊎-elim, arith, not-true, not-false, needs, kept-past, all-kept-fails, all-kept-next, all-kept-end, pairs-kept, pairs-kept-end}}
-use Rattle.consistency.specs.{Good.handlesDiffer, Relations.live}
+use Rattle.consistency.specs.Good.{handlesDiffer}
 use Rattle.records.proofs.Lengths.{rows-length}
+use Rattle.tables.specs.Tables.{live}
 use Rattle.audit_opens.proofs.all_handles_differ.Statement.{statement}
 use Rattle.audit_opens.proofs.all_handles_differ.Tie as tie
 

@@ -1,8 +1,9 @@
 -- `audit_opens::opens_consistent` meets its contract. The invariant: what is asked is what the rows from i on
 -- say, and whether the handles of every two used rows differ.
 use Rattle.base.{specs.Base.{_-_, _≡_, Bool, _&&_, getD, drop, all, pairs, openSlots, zeroOpen, namespace}, proofs.Laws.{sym, _∙_, ap, arith, needs, not-true, not-false, all-fails, all-next, all-end}}
-use Rattle.consistency.specs.{Good.handlesDiffer, Relations.live, Test.opensTest}
+use Rattle.consistency.specs.{Good.handlesDiffer, Test.opensTest}
 use Rattle.records.proofs.Lengths.{rows-length, streams-length}
+use Rattle.tables.specs.Tables.{live}
 use Rattle.audit_opens.proofs.{OpensScan.{openTest, row-found, row-past, opens-next, opens-none}, opens_consistent.Statement.statement}
 use Rattle.audit_opens.proofs.opens_consistent.Tie as tie
 
