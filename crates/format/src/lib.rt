@@ -1,5 +1,5 @@
 // Format: fresh tables with the root alone.
-use audit_files::valid_masks;
+use masks::valid_masks;
 use records::Answer;
 use records::File;
 use records::FileNo;
@@ -77,7 +77,7 @@ fn fresh_opens() -> OpenTable
 pub fn format(v: Volume, t: OpenTable, masks: [u32; ACCOUNTS], read_only: bool) -> Answer
     ensures { λ r. ⌜ Answers r (definitions.format (record { volume = v; opens = t }) masks «read_only») ⌝ }
 {
-    if !valid_masks(masks) {
+    if !valid_masks(&masks) {
         return Answer {
             outcome: Outcome::Refused(Status::InvalidParameter),
             granted: 0,

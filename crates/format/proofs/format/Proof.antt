@@ -4,14 +4,11 @@ use Rattle.format.proofs.{RightLengths.right-lengths, format.Statement.
 use Rattle.format.specs.Format.{format, freshTables, checkedMasks}
 use Rattle.format.proofs.format.Tie as tie
 
-valid-masks-requires : tie.Need-valid-masks-requires
-valid-masks-requires c κs = search needs
-
 returns : tie.Need-returns
 unfolding format freshTables checkedMasks concluded refuseIf _>>_
 returns c =
     let m = c .before in
-    let a = m .before in
+    let a = m .before .before in
     rw (
       right-lengths (a .args .v) _ (a .good .0) (a .args .t) _ (a .good .1 .0),
       ← m .valid-masks .ensures,
@@ -30,7 +27,7 @@ unfolding format freshTables checkedMasks concluded refuseIf _>>_
 returns-2 c =
     let v = c .before in
     let m = v .before .before in
-    let a = m .before in
+    let a = m .before .before in
     rw (
       right-lengths (a .args .v) _ (a .good .0) (a .args .t) _ (a .good .1 .0),
       ← m .valid-masks .ensures,
@@ -41,4 +38,4 @@ returns-2 c =
 pub format-spec : {M : Type 1} → statement M
 format-spec =
     tie.close
-    (tie.spec valid-masks-requires returns fresh-volume-requires fresh-opens-requires returns-2)
+    (tie.spec (λ c. search needs) (λ c κs. search needs) returns fresh-volume-requires fresh-opens-requires returns-2)
