@@ -19,11 +19,15 @@ abbrev pub handleCodec : Codec Handle
 handleCodec = via (λ n. record { 0 = n }) (λ h. h .0) (number 8)
 
 -- kind, attributes, a mask for each account
+abbrev pub fileOf : FileType × (ℕ × List ℕ) → File
+fileOf p = record { «file_type» = p .0; attributes = p .1 .0; masks = p .1 .1 }
+
+abbrev pub fileFields : File → FileType × (ℕ × List ℕ)
+fileFields f = (f .«file_type», (f .attributes, f .masks))
+
 abbrev pub fileCodec : Codec File
 fileCodec =
-    via
-    (λ p. record { «file_type» = p .0; attributes = p .1 .0; masks = p .1 .1 })
-    (λ f. (f .«file_type», (f .attributes, f .masks)))
+    via fileOf fileFields
     (kindCodec ⊗ number 4 ⊗ row (number 4) accounts)
 
 -- parent, file, name
@@ -39,10 +43,8 @@ linkCodec =
     (fileNoCodec ⊗ fileNoCodec ⊗ row (number 2) fileNameLimit)
 
 -- the seven share counts
-abbrev pub countsCodec : Codec ShareCounts
-countsCodec =
-    via
-    (λ p.
+abbrev pub countsOf : ℕ × (ℕ × (ℕ × (ℕ × (ℕ × (ℕ × ℕ))))) → ShareCounts
+countsOf p =
     record {
       opens = p .0;
       readers = p .1 .0;
@@ -51,11 +53,17 @@ countsCodec =
       «shared_read» = p .1 .1 .1 .1 .0;
       «shared_write» = p .1 .1 .1 .1 .1 .0;
       «shared_delete» = p .1 .1 .1 .1 .1 .1;
-    })
-    (λ c. (
-      c .opens,
-      (c .readers, (c .writers, (c .deleters, (c .«shared_read», (c .«shared_write», c .«shared_delete»))))),
-    ))
+    }
+
+abbrev pub countsFields : ShareCounts → ℕ × (ℕ × (ℕ × (ℕ × (ℕ × (ℕ × ℕ)))))
+countsFields c = (
+  c .opens,
+  (c .readers, (c .writers, (c .deleters, (c .«shared_read», (c .«shared_write», c .«shared_delete»))))),
+)
+
+abbrev pub countsCodec : Codec ShareCounts
+countsCodec =
+    via countsOf countsFields
     (number 2 ⊗ number 2 ⊗ number 2 ⊗ number 2 ⊗ number 2 ⊗ number 2 ⊗ number 2)
 
 -- kind, file, name, counts

@@ -13,3 +13,4 @@ pub mod Permutations
 pub mod Set
 pub mod Pigeonhole
 pub mod Keyed
+pub mod Copied
