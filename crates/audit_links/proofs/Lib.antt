@@ -1,1 +1,3 @@
 mod LinksScan
+mod ByTables
+mod Noted

@@ -1,32 +1,26 @@
--- `audit_links::is_zero_link` meets its contract: each test is one part of the definition.
-use Rattle.base.proofs.Laws.{_∙_, needs, eq-eqb, ne-eqb}
-use Rattle.consistency.specs.Good.{isZeroLink}
-use Rattle.audit_links.proofs.{LinksScan.free-name, is_zero_link.Statement.statement}
+use borrow.Author.Needs.{needs}
+use Rattle.audit_links.proofs.is_zero_link.Statement.{statement}
 use Rattle.audit_links.proofs.is_zero_link.Tie as tie
+use Rattle.audit_links.proofs.is_zero_link.Reads as reads
+use Rattle.audit_links.proofs.is_zero_link.Lts as lts
+use Rattle.stored_names.proofs.well_stored.Reads as well-stored-reads
 
 returns : tie.Need-returns
-unfolding isZeroLink
-returns c =
-    let l = c .before .before .args .l in
-    λ u. rw (ne-eqb (l .parent .0) 0 (c .if1 .taken))
+returns c = ?
 
 returns-2 : tie.Need-returns-2
-unfolding isZeroLink
-returns-2 c =
-    let l = c .before .before .before .before .args .l in
-    λ u. rw (eq-eqb (l .parent .0) 0 (c .before .before .if1 .left), ne-eqb (l .file .0) 0 (c .if2 .taken))
+returns-2 c = ?
+
+slice-aggregate-well-stored : tie.Need-slice-aggregate-well-stored
+slice-aggregate-well-stored c = search needs
 
 well-stored-requires : tie.Need-well-stored-requires
 well-stored-requires c κs = search needs
 
 returns-3 : tie.Need-returns-3
-unfolding isZeroLink
-returns-3 c =
-    let e = c .before .before in
-    let l = e .before .before .before .before .args .l in
-    λ u.
-    rw (eq-eqb (l .parent .0) 0 (e .before .before .if1 .left), eq-eqb (l .file .0) 0 (e .if2 .left))
-    (c .well-stored .ensures ∙ free-name l u)
+returns-3 c = ?
 
 pub is-zero-link-spec : {M : Type 1} → statement M
-is-zero-link-spec = tie.close (tie.spec returns returns-2 well-stored-requires returns-3)
+is-zero-link-spec =
+    tie.close
+    (tie.spec returns returns-2 slice-aggregate-well-stored well-stored-requires returns-3)

@@ -1,7 +1,7 @@
--- `audit_parents::links_wanted` meets its contract.
+-- `audit_links::links_wanted` meets its contract.
 use Rattle.base.proofs.Laws.{eq-eqb, ne-eqb}
-use Rattle.audit_parents.proofs.links_wanted.Statement.{statement}
-use Rattle.audit_parents.proofs.links_wanted.Tie as tie
+use Rattle.audit_links.proofs.links_wanted.Statement.{statement}
+use Rattle.audit_links.proofs.links_wanted.Tie as tie
 
 returns : tie.Need-returns
 returns c = rw (eq-eqb (c .before .args .n) 0 (c .if1 .taken))

@@ -1,9 +1,9 @@
--- `audit_parents::own_numbers` meets its contract. The invariant: each place below i has its own number.
+-- `audit_links::own_numbers` meets its contract. The invariant: each place below i has its own number.
 use Rattle.base.{specs.Base.{ℕ, _-_, _≤_, _<_, _≡_, length, getD, fileSlots}, proofs.Laws.{_∙_, arith, length-set, getD-set-same, needs}}
 use borrow.Author.Count.{below-more}
 use lib.Seq.{getD-set-other}
-use Rattle.audit_parents.proofs.own_numbers.Statement.{statement}
-use Rattle.audit_parents.proofs.own_numbers.Tie as tie
+use Rattle.audit_links.proofs.own_numbers.Statement.{statement}
+use Rattle.audit_links.proofs.own_numbers.Tie as tie
 
 abbrev Inv-loop : tie.InvT-loop
 Inv-loop numbers₀ i₀ numbers i = (i ≤ fileSlots) × (length numbers ≡ fileSlots) × ((n : ℕ) → n < i → getD numbers n 0 ≡ n)
