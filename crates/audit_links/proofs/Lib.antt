@@ -1,3 +1,4 @@
-mod LinksScan
-mod ByTables
+mod Links
+mod Linked
 mod Noted
+mod Pass

@@ -1,7 +1,7 @@
 -- What the audit notes of each file in a pass over the links, from the last to the first, in tables by file numbers.
 use Rattle.base.{specs.Base.{ℕ, suc, _+_, _-_, _≤_, _<_, _≡_, true, false, List, [], _∷_, inl, length, getD, set, drop, replicate, all, count, fileSlots, linkUsed, zeroLink, FileNo, File, Link}, proofs.Laws.{refl, sym, ap, _∙_, arith, length-set, getD-replicate, by-cases, and-left, and-right, count-yes, count-no, Noted, keyed, keyed-own, back-skip, back-set}}
 use Rattle.consistency.{specs.Relations.{linkTo, parentOf}, proofs.{Relations.link-to-iff, Parents.{parent-here, parent-next}}}
-use Rattle.audit_links.proofs.{LinksScan.{linkTest, parent-there}, ByTables.{linksTo, above}}
+use Rattle.audit_links.proofs.{Links.{linkTest, parent-there}, Linked.{linksTo, above}}
 
 -- the number of the file that a link names
 abbrev pub fileOf : Link → ℕ

@@ -19,9 +19,10 @@ use records_links::read_parent;
 use stored_names::name_length;
 use stored_names::same_names;
 use stored_names::well_stored;
+use stored_names::zero_name;
 ghost use Prim.Native.Nat.{ℕ, _<_};
 ghost use mathlib.Core.Path.{_≡_};
-ghost use mathlib.Core.Bool.{cond, false, not, _||_};
+ghost use mathlib.Core.Bool.{cond, not, _||_};
 ghost use lib.Dec.{eqb};
 ghost use lib.ListN.{length, getD, drop};
 ghost use Rattle.lists.specs.Lists.{all, allFrom, keep, pairs};
@@ -34,11 +35,11 @@ ghost use Rattle.layout.specs.Layout.{tablesSize, decode};
 ghost use Rattle.consistency.specs.Slots.{slotTest};
 ghost use Rattle.consistency.specs.Good.{goodLink, isZeroLink, linkNamesDiffer};
 ghost use Rattle.consistency.specs.Test.{linksTest};
-ghost use Rattle.audit_links.specs.Tables.{leads, numberLinked, fileLinked};
+ghost use Rattle.audit_links.specs.Linked.{leads, linkedAt, fileLinked};
 
-// What a free slot has is zero. Its name has no first unit, so it is well stored exactly when it is all zero.
+// What a free slot has is zero.
 fn is_zero_link(l: Link) -> bool
-    ensures { λ r. ⌜ (linkUsed l ≡ false → r ≡ isZeroLink l) ⌝ }
+    ensures { λ r. ⌜ r ≡ isZeroLink l ⌝ }
 {
     if l.parent.0 != 0 {
         return false;
@@ -47,10 +48,10 @@ fn is_zero_link(l: Link) -> bool
         return false;
     }
     let name = l.name;
-    well_stored(&name)
+    zero_name(&name)
 }
 
-// The units of a name are a valid one's.
+// The name of a link is a valid one.
 fn valid_stored_name(name: &[u16]) -> bool
     ensures { λ r. ⌜ r ≡ validFileName fileNameLimit (units (now (name .entry))) ⌝ }
 {
@@ -146,7 +147,7 @@ fn own_numbers() -> [u16; FILE_SLOTS]
 }
 
 // Whether the root is at most as many steps up as there are slots, by a table of parents.
-fn leads_to_root(up: &[u16; FILE_SLOTS], from: usize) -> bool
+fn leads_to_root(up: &[u16], from: usize) -> bool
     ensures { λ r. ⌜ r ≡ leads (now (up .entry)) fileSlots from ⌝ }
 {
     let mut at = from;
@@ -155,7 +156,7 @@ fn leads_to_root(up: &[u16; FILE_SLOTS], from: usize) -> bool
         if at == 0 {
             return true;
         }
-        if at >= FILE_SLOTS {
+        if at >= up.len() {
             return false;
         }
         at = up[at] as usize;
@@ -171,20 +172,23 @@ fn links_wanted(n: usize) -> u16
     if n == 0 { 0 } else { 1 }
 }
 
-// Each used file but the root has one link, the root none, and the parents lead to the root.
-fn files_linked(b: &[u8], counts: &[u16; FILE_SLOTS], up: &[u16; FILE_SLOTS]) -> bool
-    requires { ⌜ length (now b) ≡ tablesSize ⌝ }
+// The file at a number has the links that it should, and the root is above it.
+fn linked_at(counts: &[u16], up: &[u16], n: usize) -> bool
+    requires { ⌜ n < length (now counts) ⌝ }
+    ensures { λ r. ⌜ r ≡ linkedAt (now (counts .entry)) (now (up .entry)) n ⌝ }
+{
+    counts[n] == links_wanted(n) && leads_to_root(up, n)
+}
+
+// Each used file is linked.
+fn files_linked(b: &[u8], counts: &[u16], up: &[u16]) -> bool
+    requires { ⌜ (length (now b) ≡ tablesSize) × (length (now counts) ≡ fileSlots) ⌝ }
     ensures { λ r. ⌜ r ≡ allFrom (fileLinked (now (counts .entry)) (now (up .entry))) 0 (decode (now (b .entry)) .volume .files) ⌝ }
 {
     let mut i: usize = 0;
     while i < FILE_SLOTS {
-        if is_used(read_file_type(b, FileNo(i as u16))) {
-            if counts[i] != links_wanted(i) {
-                return false;
-            }
-            if !leads_to_root(up, i) {
-                return false;
-            }
+        if is_used(read_file_type(b, FileNo(i as u16))) && !linked_at(counts, up, i) {
+            return false;
         }
         i += 1;
     }

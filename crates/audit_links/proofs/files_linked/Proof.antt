@@ -1,59 +1,56 @@
+-- `audit_links::files_linked` meets its contract. The invariant: what is asked is what the rest of the files say.
+use Rattle.base.{specs.Base.{_-_, _≡_, getD, drop, allFrom, isUsed, fileUsed, zeroFile, fileSlots}, proofs.Laws.{refl, sym, ap, _∙_, ⊎-elim, arith, needs, not-true, not-false, numbered-stops, numbered-next, numbered-end}}
+use Rattle.layout.{specs.Layout.decode, proofs.Lengths.files-count}
+use Rattle.tables.specs.Tables.{fileAt}
+use Rattle.audit_links.specs.Linked.{fileLinked}
 use Rattle.audit_links.proofs.files_linked.Statement.{statement}
 use Rattle.audit_links.proofs.files_linked.Tie as tie
-use Rattle.audit_links.proofs.files_linked.Reads as reads
-use Rattle.audit_links.proofs.files_linked.Lts as lts
-use Rattle.audit_links.proofs.leads_to_root.Reads as leads-to-root-reads
-use Rattle.audit_links.proofs.links_wanted.Reads as links-wanted-reads
-use Rattle.records.proofs.slots.is_used.Reads as is-used-reads
-use Rattle.records_files.proofs.read_file_type.Reads as read-file-type-reads
 
 abbrev Inv-loop : tie.InvT-loop
-Inv-loop b counts up i₀ i = ?
+Inv-loop b counts up i₀ i =
+    allFrom (fileLinked counts up) 0 (decode b .volume .files) ≡ allFrom (fileLinked counts up) i (drop i (decode b .volume .files))
 
 abbrev μ-loop : tie.MeasureT-loop
-μ-loop b counts up i₀ i = ?
+μ-loop b counts up i₀ i = fileSlots - i
 
-loop-holds : tie.Need-loop-holds Inv-loop μ-loop
-loop-holds c = ?
-
-cast-t8 : tie.Need-cast-t8 Inv-loop μ-loop
-cast-t8 c = ?
-
-read-file-type-requires : tie.Need-read-file-type-requires Inv-loop μ-loop
-read-file-type-requires c κs = ?
-
-is-used-requires : tie.Need-is-used-requires Inv-loop μ-loop
-is-used-requires c κs = ?
-
-mul-if2 : tie.Need-mul-if2 Inv-loop μ-loop
-mul-if2 c = ?
-
-element-copy-out-if2 : tie.Need-element-copy-out-if2 Inv-loop μ-loop
-element-copy-out-if2 c = ?
-
-links-wanted-requires : tie.Need-links-wanted-requires Inv-loop μ-loop
-links-wanted-requires c κs = ?
+-- whether the file at place i is used, as its type says
+used : (c : tie.After-is-used Inv-loop μ-loop) →
+    let l = c .before .before .before in
+    c .is-used .result ≡ fileUsed (getD (decode (l .before .before .before .before .args .b .now) .volume .files) (l .loop .i) zeroFile)
+unfolding fileAt fileUsed
+used c = c .is-used .ensures ∙ ap isUsed (c .before .read-file-type .ensures)
 
 returns : tie.Need-returns Inv-loop μ-loop
-returns c = ?
-
-leads-to-root-requires : tie.Need-leads-to-root-requires Inv-loop μ-loop
-leads-to-root-requires c κs = ?
-
-returns-2 : tie.Need-returns-2 Inv-loop μ-loop
-returns-2 c = ?
-
-add-i : tie.Need-add-i Inv-loop μ-loop
-add-i c = ?
-
-loop-less : tie.Need-loop-less Inv-loop μ-loop
-loop-less c = ?
+unfolding fileLinked
+returns c =
+    let u = c .before .before .before in
+    let l = u .before .before .before in
+    let a = l .before .before .before .before .args in
+    let h = files-count (a .b .now) in
+    sym
+    (l .loop .inv
+    ∙ numbered-stops (fileLinked (a .counts .now) (a .up .now)) (decode (a .b .now) .volume .files) (l .loop .i) zeroFile (omega arith)
+    (rw (← used u, c .before .before .if1 .taken, ← c .before .linked-at .ensures) (not-true (c .before .linked-at .result) (c .if2 .taken))))
 
 loop-again : tie.Need-loop-again Inv-loop μ-loop
-loop-again c = ?
+unfolding fileLinked
+loop-again c =
+    let u = c .before in
+    let l = u .before .before .before in
+    let a = l .before .before .before .before .args in
+    let h = files-count (a .b .now) in
+    l .loop .inv
+    ∙ numbered-next (fileLinked (a .counts .now) (a .up .now)) (decode (a .b .now) .volume .files) (l .loop .i) zeroFile (omega arith)
+    (⊎-elim (λ w. rw (← used u, w .0 .taken, ← w .1 .ensures) (not-false (w .1 .result) (w .2 .left))) (λ w. rw (← used u, w .left)) (c .if1 .came))
 
-returns-3 : tie.Need-returns-3 Inv-loop μ-loop
-returns-3 c = ?
+returns-2 : tie.Need-returns-2 Inv-loop μ-loop
+returns-2 c =
+    let l = c .before in
+    let a = l .before .before .before .before .args in
+    let h = files-count (a .b .now) in
+    sym
+    (l .loop .inv
+    ∙ numbered-end (fileLinked (a .counts .now) (a .up .now)) (decode (a .b .now) .volume .files) (l .loop .i) (omega arith))
 
 pub files-linked-spec : {M : Type 1} → statement M
 files-linked-spec =
@@ -61,17 +58,13 @@ files-linked-spec =
     (tie.spec
     Inv-loop
     μ-loop
-    loop-holds
-    cast-t8
-    read-file-type-requires
-    is-used-requires
-    mul-if2
-    element-copy-out-if2
-    links-wanted-requires
+    (λ c. refl)
+    (λ c. search needs)
+    (λ c κs. search needs)
+    (λ c κs. search needs)
+    (λ c κs. search needs)
     returns
-    leads-to-root-requires
-    returns-2
-    add-i
-    loop-less
+    (λ c. search needs)
+    (λ c. search needs)
     loop-again
-    returns-3)
+    returns-2)

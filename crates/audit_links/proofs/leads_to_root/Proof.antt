@@ -1,8 +1,8 @@
 -- `audit_links::leads_to_root` meets its contract. The invariant: what is asked is whether the root is at most as many
 -- steps above the present file as are left.
 use Rattle.base.{specs.Base.{ℕ, _≡_, fileSlots}, proofs.Laws.{refl, sym, ap, _∙_, arith, needs}}
-use Rattle.audit_links.specs.Tables.{leads}
-use Rattle.audit_links.proofs.{ByTables.{leads-here, leads-next, leads-past}, leads_to_root.Statement.statement}
+use Rattle.audit_links.specs.Linked.{leads}
+use Rattle.audit_links.proofs.{Linked.{leads-here, leads-next, leads-past}, leads_to_root.Statement.statement}
 use Rattle.audit_links.proofs.leads_to_root.Tie as tie
 
 abbrev Inv-loop : tie.InvT-loop
@@ -47,7 +47,7 @@ leads-to-root-spec =
     returns-2
     (λ c. search needs)
     (λ c. search needs)
-    (λ c. search needs)
+    (λ c. omega (arith, c .shared-slice-known .given (c .before .before .before .before .loop .at)))
     (λ c. search needs)
     (λ c. search needs)
     loop-again

@@ -3,11 +3,7 @@ use Rattle.base.proofs.Laws.{eq-eqb, ne-eqb}
 use Rattle.audit_links.proofs.links_wanted.Statement.{statement}
 use Rattle.audit_links.proofs.links_wanted.Tie as tie
 
-returns : tie.Need-returns
-returns c = rw (eq-eqb (c .before .args .n) 0 (c .if1 .taken))
-
-returns-2 : tie.Need-returns-2
-returns-2 c = rw (ne-eqb (c .before .args .n) 0 (c .if1 .left))
-
 pub links-wanted-spec : {M : Type 1} → statement M
-links-wanted-spec = tie.close (tie.spec returns returns-2)
+links-wanted-spec =
+    tie.close
+    (tie.spec (λ c. rw (eq-eqb (c .before .args .n) 0 (c .if1 .taken))) (λ c. rw (ne-eqb (c .before .args .n) 0 (c .if1 .left))))

@@ -11,24 +11,6 @@ Inv-loop numbers₀ i₀ numbers i = (i ≤ fileSlots) × (length numbers ≡ fi
 abbrev μ-loop : tie.MeasureT-loop
 μ-loop numbers₀ i₀ numbers i = fileSlots - i
 
-loop-holds : tie.Need-loop-holds Inv-loop μ-loop
-loop-holds c = search needs
-
-cast-numbers : tie.Need-cast-numbers Inv-loop μ-loop
-cast-numbers c = search needs
-
-mul-numbers : tie.Need-mul-numbers Inv-loop μ-loop
-mul-numbers c = search needs
-
-array-write-numbers : tie.Need-array-write-numbers Inv-loop μ-loop
-array-write-numbers c = search needs
-
-add-i : tie.Need-add-i Inv-loop μ-loop
-add-i c = search needs
-
-loop-less : tie.Need-loop-less Inv-loop μ-loop
-loop-less c = search needs
-
 loop-again : tie.Need-loop-again Inv-loop μ-loop
 loop-again c =
     let l = c .before in
@@ -41,20 +23,17 @@ loop-again c =
           (getD-set-same ns i i 0 (omega arith)),
     )
 
-returns : tie.Need-returns Inv-loop μ-loop
-returns c = λ n b. c .before .loop .inv .2 n (omega arith)
-
 pub own-numbers-spec : {M : Type 1} → statement M
 own-numbers-spec =
     tie.close
     (tie.spec
     Inv-loop
     μ-loop
-    loop-holds
-    cast-numbers
-    mul-numbers
-    array-write-numbers
-    add-i
-    loop-less
+    (λ c. search needs)
+    (λ c. search needs)
+    (λ c. search needs)
+    (λ c. search needs)
+    (λ c. search needs)
+    (λ c. search needs)
     loop-again
-    returns)
+    (λ c n b. c .before .loop .inv .2 n (omega arith)))

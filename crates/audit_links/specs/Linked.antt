@@ -6,9 +6,9 @@ unfoldable pub leads : List ℕ → ℕ → ℕ → Bool
 leads up zero n = eqb n 0
 leads up (suc steps) n = elim (eqb n 0) [ true ↦ true | false ↦ leads up steps (getD up n n) ]
 
--- a file's links: none for the root, one for every other used file, and the root above it
-unfoldable pub numberLinked : List ℕ → List ℕ → ℕ → Bool
-numberLinked counts up n = eqb (getD counts n 0) (cond (eqb n 0) 0 1) && leads up fileSlots n
+-- the links of the file at a number: none for the root, one for every other, and the root above it; asked of a used file
+unfoldable pub linkedAt : List ℕ → List ℕ → ℕ → Bool
+linkedAt counts up n = eqb (getD counts n 0) (cond (eqb n 0) 0 1) && leads up fileSlots n
 
 unfoldable pub fileLinked : List ℕ → List ℕ → ℕ → File → Bool
-fileLinked counts up n f = not (fileUsed f) || numberLinked counts up n
+fileLinked counts up n f = not (fileUsed f) || linkedAt counts up n

@@ -1,8 +1,8 @@
 -- The links of a file by tables of the counts and the parents: one step of the way up, and what tables that have what the
 -- links say decide.
-use Rattle.base.{specs.Base.{ℕ, zero, suc, _-_, _≤_, _<_, _≡_, Bool, true, false, cond, not, _&&_, _||_, List, eqb, length, getD, count, keep, fileSlots, fileUsed, linkUsed, FileNo, File, Link}, proofs.Laws.{refl, sym, ap, ap₂, _∙_, arith, List·getD-eq-default, eq-eqb, ne-eqb, by-cases, getD-default, Noted}}
+use Rattle.base.{specs.Base.{ℕ, zero, suc, _-_, _≤_, _<_, _≡_, true, false, List, eqb, length, getD, count, keep, fileSlots, linkUsed, FileNo, File, Link}, proofs.Laws.{refl, ap, _∙_, arith, List·getD-eq-default, eq-eqb, ne-eqb, by-cases, getD-default, Noted}}
 use Rattle.consistency.{specs.{Relations.{linkTo, parentOf, reaches}, Test.linksOfFile}, proofs.{Numbered.same-file, Parents.{links-kept, reaches-kept}}}
-use Rattle.audit_links.specs.Tables.{leads, numberLinked, fileLinked}
+use Rattle.audit_links.specs.Linked.{leads, linkedAt, fileLinked}
 
 -- one step up
 module _ (up : List ℕ) where
@@ -49,7 +49,7 @@ module _ (ls : List Link) (counts up : List ℕ) (size : length up ≡ fileSlots
 
   -- a file's test over all the links: the free ones do not matter
   pub linked-same : (n : ℕ) → n < fileSlots → (f : File) → fileLinked counts up n f ≡ linksOfFile (keep linkUsed ls) n f
-  unfolding linksOfFile fileLinked numberLinked
+  unfolding linksOfFile fileLinked linkedAt
   linked-same n b f =
       let number : FileNo = record { 0 = n } in
       rw (counted n b, leads-reaches fileSlots n b, links-kept number ls, reaches-kept ls fileSlots number)

@@ -1,12 +1,7 @@
--- What the audit's code computes of a link, and what the test asks.
-use Rattle.base.{specs.Base.{_<_, _≡_, Bool, true, false, not, List, eqb, length, getD, replicate, same, fileNameLimit, fileUsed, linkUsed, File, Link}, proofs.Laws.{not-false, eqb-true, eq-eqb, ne-eqb}}
+-- A link by itself: what a used one that passes names; and two links.
+use Rattle.base.{specs.Base.{_<_, _≡_, Bool, true, not, List, length, same, fileUsed, linkUsed, File, Link}, proofs.Laws.{eq-eqb, ne-eqb}}
 use Rattle.consistency.{specs.{Slots.slotTest, Good.{isZeroLink, linkNamesDiffer}, Test.goodLinkOf}, proofs.{Slots.slot-good, Numbered.{file-in, directory-file}, Links.link-decides}}
-use Rattle.stored_names.{specs.StoredNames.{units, wellStored}, proofs.StoredUnits.zeros-stored}
-
--- a name without a first unit is well stored exactly when it is all zero
-pub free-name : (l : Link) → linkUsed l ≡ false → wellStored fileNameLimit (l .name) ≡ same (l .name) (replicate fileNameLimit 0)
-unfolding linkUsed
-free-name l u = zeros-stored fileNameLimit (l .name) (eqb-true (getD (l .name) 0 0) 0 (not-false (eqb (getD (l .name) 0 0) 0) u))
+use Rattle.stored_names.specs.StoredNames.{units}
 
 -- a slot, used or free
 abbrev pub linkTest : List File → Link → Bool
