@@ -3,7 +3,7 @@ pub use mathlib.Core.Path.{refl, sym, _∙_, ap, ap₂, subst, subst₂}
 pub use mathlib.Core.Logic.{⊎-elim}
 pub use mathlib.Core.Bool.{true≢false, false≢true}
 pub use mathlib.Core.Option.{Option·some-injective}
-pub use lib.ListN.{length-take, length-drop, drop-of-length-le, length-set, getD-replicate, length-map, List·getD-eq-default, List·getD-map}
+pub use lib.ListN.{length-take, length-drop, drop-of-length-le, length-set, length-replicate, getD-replicate, length-map, List·getD-eq-default, List·getD-map}
 pub use lib.Seq.{take-all, getD-set-same}
 pub use borrow.Author.Tests.{eqb-true, eq-eqb, ne-eqb, not-false, not-true, ltb-false, ltb-true, eqb-false, le-leb, lt-leb}
 pub use native.Mathlib.Omega.{arith}
@@ -20,6 +20,7 @@ pub use Rattle.lists.proofs.Pairs.{pairs-at, pairs-keep-at, pairs-keep-of, pair
 pub use Rattle.lists.proofs.First.{Found, after-found, first-found, first-none, first-some, found-iff, none-iff, Searching, searching-begins, searching-finds, searching-turns, searching-ends, answerFrom, answer-here, answer-next, answer-none, after-map, first-map, find-here, find-next, find-found, find-keep, apart, perm-apart, perm-find}
 pub use Rattle.lists.proofs.Permutations.{perm-refl, perm-eq, perm-sym, perm-length, perm-keep, perm-count, perm-any, perm-pairs, perm-set, keep-set-in, keep-set-gone}
 pub use Rattle.lists.proofs.Set.{FreeSlot, SetAt, set-cases, set-each, set-pairs, count-gained, one-before, one-added, free-stays, map-set}
+pub use Rattle.lists.proofs.Copied.{Copied, copied-none, copied-next, copied-all}
 pub use Rattle.lists.proofs.Pigeonhole.{pigeonhole, least}
 pub use Rattle.lists.proofs.Keyed.{Noted, keyed, keyed-own, back-skip, back-set, front-skip, front-add}
 pub use Rattle.lists.proofs.Back.{Scanned, scan-none, scan-fails, scan-back, scan-end}
