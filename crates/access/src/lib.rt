@@ -27,7 +27,7 @@ fn is_data(t: FileType) -> bool
 }
 
 // The account's access mask on a file; an account past the last has none.
-fn mask_of(f: File, account: u32) -> u32
+pub fn mask_of(f: File, account: u32) -> u32
     ensures { λ r. ⌜ r ≡ maskOf f account ⌝ }
 {
     let i = account as usize;

@@ -4,6 +4,13 @@ use access::Access;
 use access::access_rule;
 use access::mask_of;
 use components::part_of;
+use open_steps::ExistingOpen;
+use open_steps::FileToAdd;
+use open_steps::FoundTarget;
+use open_steps::NewAttributes;
+use open_steps::PendingOpen;
+use open_steps::SharingRule;
+use open_steps::StreamToAdd;
 use paths::LeafParts;
 use records::CreateAction;
 use records::File;
@@ -30,116 +37,109 @@ use records::constants::TEMPORARY;
 use records::constants::WRITE_DATA;
 use records_files::read_file;
 use records_volume::read_mark;
+use request_checks::only_opens;
 use request_checks::wants_directory;
-use target::Target;
-use target::only_opens;
+ghost use Prim.Native.Nat.{ℕ};
+ghost use mathlib.Core.Path.{_≡_};
+ghost use mathlib.Core.Bool.{cond};
+ghost use mathlib.Core.List.{List, [], _∷_};
+ghost use lib.ListN.{length};
+ghost use Rattle.lists.specs.Lists.{oneOf};
+ghost use Rattle.records.specs.Constants.{openOnly, openIf, addSubdirectory, addFile};
+ghost use Rattle.records.specs.Namespace.{namespace};
+ghost use Rattle.layout.specs.Layout.{tablesSize, decode};
+ghost use Rattle.tables.specs.Tables.{fileAt};
+ghost use Rattle.access.specs.Access.{accessRule};
+ghost use Rattle.paths.specs.Positions.{asLeaf};
+ghost use Rattle.store.specs.Request.{wantsDirectory};
+ghost use Rattle.store.specs.Prepare.{asOffered, grantedNew, newType, attributesNew, admitFile, readSharingOf, admitOpen, hiddenOrSystem, gained, replacing, replacement, admitReplace, admitStream};
+ghost use Rattle.open_steps.specs.Targets.{asTarget};
+ghost use Rattle.open_steps.specs.Pendings.{asReadSharing, asAttributes, asPending};
+ghost use Rattle.admit.specs.Admitted.{admitted};
 
-// What step 10 does to a directory's open when the directory has no open at all.
-pub enum ReadSharing {
-    AsOffered,
-    AddedIfAlone,
-    DeniedIfAlone,
-}
-
-// Whether an open gives its file new attributes.
-pub enum NewAttributes {
-    Kept,
-    Set(u32),
-}
-
-// An open of a stream that is there: it goes to the sharing check.
-pub struct ExistingOpen {
-    pub file: FileNo,
-    pub stream: StreamNo,
-    pub granted: u32,
-    pub share: u32,
-    pub read_sharing: ReadSharing,
-    pub action: CreateAction,
-    pub attributes: NewAttributes,
-}
-
-// A stream to add to a file, whose attributes become these.
-pub struct StreamToAdd {
-    pub file: FileNo,
-    pub leaf: LeafParts,
-    pub attributes: u32,
-    pub granted: u32,
-    pub share: u32,
-}
-
-// A file to add to a directory, of which it copies the masks.
-pub struct FileToAdd {
-    pub dir: FileNo,
-    pub leaf: LeafParts,
-    pub file_type: FileType,
-    pub attributes: u32,
-    pub granted: u32,
-    pub share: u32,
-}
-
-// An open that no step before the sharing check refuses: it reaches that check, or it has none.
-pub enum Pending {
-    Refused(Status),
-    Existing(ExistingOpen),
-    NewStream(StreamToAdd),
-    NewFile(FileToAdd),
+// The access rule on a file, for the request's account.
+fn grant(b: &[u8], r: Request, file: FileNo, access: u32) -> Access
+    requires { ⌜ length (now b) ≡ tablesSize ⌝ }
+    ensures { λ x. ⌜ x ≡ accessRule (fileAt (decode (now (b .entry)) .volume .files) file) (r .account) access ⌝ }
+{
+    access_rule(read_file(b, file), r.account, access)
 }
 
 // Step 9: a new file's type, granted access and attributes.
-fn new_type(r: Request) -> FileType {
-    if wants_directory(r) { FileType::Directory } else { FileType::Data }
+fn new_type(r: Request) -> FileType
+    ensures { λ x. ⌜ x ≡ newType r ⌝ }
+{
+    if wants_directory(r) {
+        FileType::Directory
+    } else {
+        FileType::Data
+    }
 }
 
-fn granted_new(access: u32) -> u32 {
+fn granted_new(access: u32) -> u32
+    ensures { λ x. ⌜ x ≡ grantedNew access ⌝ }
+{
     if bits::has(access, MAXIMUM_ALLOWED) { ALL_ACCESS } else { access }
 }
 
-fn attributes_new(r: Request, parent: u32) -> u32 {
+fn attributes_new(r: Request, parent: File) -> u32
+    ensures { λ x. ⌜ x ≡ attributesNew r parent ⌝ }
+{
     let own = bits::without(r.attributes & 0x3127, NOT_CONTENT_INDEXED);
     let kind = if wants_directory(r) { DIRECTORY } else { ARCHIVE };
-    (own | (parent & NOT_CONTENT_INDEXED)) | kind
+    (own | (parent.attributes & NOT_CONTENT_INDEXED)) | kind
 }
 
 // What the parent's mask must have.
-fn add_right(r: Request) -> u32 {
+fn add_right(r: Request) -> u32
+    ensures { λ x. ⌜ x ≡ cond (wantsDirectory r) addSubdirectory addFile ⌝ }
+{
     if wants_directory(r) { ADD_SUBDIRECTORY } else { ADD_FILE }
 }
 
-fn admit_file(b: &[u8], r: Request, dir: FileNo, leaf: LeafParts) -> Pending {
+fn admit_file(b: &[u8], r: Request, dir: FileNo, leaf: LeafParts) -> PendingOpen
+    requires { ⌜ length (now b) ≡ tablesSize ⌝ }
+    ensures { λ x. ⌜ ((path : List ℕ) → asPending (decode (now (b .entry)) .volume .files) path x ≡ admitFile (namespace (decode (now (b .entry)) .volume)) r dir (asLeaf path leaf)) ⌝ }
+{
     if wants_directory(r) & bits::has(r.attributes, TEMPORARY) {
-        return Pending::Refused(Status::InvalidParameter);
+        return PendingOpen::Refused(Status::InvalidParameter);
     }
     let parent = read_file(b, dir);
     if !bits::has(mask_of(parent, r.account), add_right(r)) {
-        return Pending::Refused(Status::AccessDenied);
+        return PendingOpen::Refused(Status::AccessDenied);
     }
-    Pending::NewFile(FileToAdd {
+    PendingOpen::NewFile(FileToAdd {
         dir,
         leaf,
         file_type: new_type(r),
-        attributes: attributes_new(r, parent.attributes),
+        attributes: attributes_new(r, parent),
         granted: granted_new(r.access),
         share: r.share,
     })
 }
 
 // Step 10: share read is not offered, and the account's mask lacks some bit of 0x120116.
-fn read_sharing(r: Request, f: File) -> ReadSharing {
+fn read_sharing(r: Request, f: File) -> SharingRule
+    ensures { λ x. ⌜ asReadSharing x ≡ readSharingOf r f ⌝ }
+{
     if bits::has(r.share, SHARE_READ) | bits::within(FILE_GENERIC_WRITE, mask_of(f, r.account)) {
-        return ReadSharing::AsOffered;
+        return SharingRule::AsOffered;
     }
     if bits::has(r.options, DISALLOW_EXCLUSIVE) {
-        return ReadSharing::DeniedIfAlone;
+        return SharingRule::DeniedIfAlone;
     }
-    ReadSharing::AddedIfAlone
+    SharingRule::AddedIfAlone
 }
 
 // Steps 10 and 11, open or open-if of what was found.
-fn admit_open(r: Request, f: File, file: FileNo, stream: StreamNo, read_sharing: ReadSharing) -> Pending {
-    let access = access_rule(f, r.account, r.access);
+fn admit_open(b: &[u8], r: Request, file: FileNo, stream: StreamNo, read_sharing: SharingRule) -> PendingOpen
+    requires { ⌜ length (now b) ≡ tablesSize ⌝ }
+    ensures { λ x. ⌜ ((path : List ℕ) → asPending (decode (now (b .entry)) .volume .files) path x ≡ admitOpen (namespace (decode (now (b .entry)) .volume)) r file stream (asReadSharing «read_sharing»)) ⌝ }
+{
+    let access = grant(b, r, file, r.access);
     match access {
-        Access::Denied => Pending::Refused(Status::AccessDenied),
-        Access::Granted(granted) => Pending::Existing(ExistingOpen {
+        Access::Denied => PendingOpen::Refused(Status::AccessDenied),
+        Access::Granted(granted) => PendingOpen::Existing(ExistingOpen {
             file,
             stream,
             granted,
@@ -151,61 +151,78 @@ fn admit_open(r: Request, f: File, file: FileNo, stream: StreamNo, read_sharing:
     }
 }
 
-// Step 11, stream found, supersede, overwrite or overwrite-if.
-fn hidden_or_system(asked: u32, had: u32) -> bool {
-    (bits::has(had, HIDDEN) & !bits::has(asked, HIDDEN)) | (bits::has(had, SYSTEM) & !bits::has(asked, SYSTEM))
+// Step 11, stream found, supersede, overwrite or overwrite-if: the file is hidden or system, and was not so asked.
+fn hidden_or_system(r: Request, f: File) -> bool
+    ensures { λ x. ⌜ x ≡ hiddenOrSystem r f ⌝ }
+{
+    (bits::has(f.attributes, HIDDEN) & !bits::has(r.attributes, HIDDEN))
+        | (bits::has(f.attributes, SYSTEM) & !bits::has(r.attributes, SYSTEM))
 }
 
 // What the access gains before the access rule.
-fn gained(supersedes: bool, unnamed: bool) -> u32 {
-    let base = if unnamed { 0x110 } else { 0 };
-    let more = if supersedes { DELETE } else { WRITE_DATA };
-    base | more
+fn gained(r: Request, unnamed: bool) -> u32
+    ensures { λ x. ⌜ x ≡ gained r unnamed ⌝ }
+{
+    let more = if r.disposition == SUPERSEDE { DELETE } else { WRITE_DATA };
+    if unnamed { 0x110 | more } else { more }
 }
 
-fn replacing(supersedes: bool) -> CreateAction {
-    if supersedes { CreateAction::Superseded } else { CreateAction::Overwritten }
+fn replacing(r: Request) -> CreateAction
+    ensures { λ x. ⌜ x ≡ replacing r ⌝ }
+{
+    if r.disposition == SUPERSEDE {
+        CreateAction::Superseded
+    } else {
+        CreateAction::Overwritten
+    }
 }
 
-fn replacement(asked: u32, unnamed: bool) -> NewAttributes {
+fn replacement(r: Request, unnamed: bool) -> NewAttributes
+    ensures { λ x. ⌜ asAttributes x ≡ replacement r unnamed ⌝ }
+{
     if unnamed {
-        NewAttributes::Set(bits::without(asked | ARCHIVE, 0x2080))
+        NewAttributes::Set(bits::without(r.attributes | ARCHIVE, 0x2080))
     } else {
         NewAttributes::Kept
     }
 }
 
-fn admit_replace(r: Request, f: File, file: FileNo, stream: StreamNo, unnamed: bool) -> Pending {
-    if unnamed & hidden_or_system(r.attributes, f.attributes) {
-        return Pending::Refused(Status::AccessDenied);
+fn admit_replace(b: &[u8], r: Request, file: FileNo, stream: StreamNo, unnamed: bool) -> PendingOpen
+    requires { ⌜ length (now b) ≡ tablesSize ⌝ }
+    ensures { λ x. ⌜ ((path : List ℕ) → asPending (decode (now (b .entry)) .volume .files) path x ≡ admitReplace (namespace (decode (now (b .entry)) .volume)) r file stream unnamed) ⌝ }
+{
+    if unnamed & hidden_or_system(r, read_file(b, file)) {
+        return PendingOpen::Refused(Status::AccessDenied);
     }
-    let supersedes = r.disposition == SUPERSEDE;
-    let access = access_rule(f, r.account, r.access | gained(supersedes, unnamed));
+    let access = grant(b, r, file, r.access | gained(r, unnamed));
     match access {
-        Access::Denied => Pending::Refused(Status::AccessDenied),
-        Access::Granted(granted) => Pending::Existing(ExistingOpen {
+        Access::Denied => PendingOpen::Refused(Status::AccessDenied),
+        Access::Granted(granted) => PendingOpen::Existing(ExistingOpen {
             file,
             stream,
             granted,
             share: r.share,
-            read_sharing: ReadSharing::AsOffered,
-            action: replacing(supersedes),
-            attributes: replacement(r.attributes, unnamed),
+            read_sharing: SharingRule::AsOffered,
+            action: replacing(r),
+            attributes: replacement(r, unnamed),
         }),
     }
 }
 
 // Step 11, stream missing.
-fn admit_stream(b: &[u8], r: Request, file: FileNo, leaf: LeafParts) -> Pending {
-    let f = read_file(b, file);
-    let access = access_rule(f, r.account, r.access | WRITE_DATA);
+fn admit_stream(b: &[u8], r: Request, file: FileNo, leaf: LeafParts) -> PendingOpen
+    requires { ⌜ length (now b) ≡ tablesSize ⌝ }
+    ensures { λ x. ⌜ ((path : List ℕ) → asPending (decode (now (b .entry)) .volume .files) path x ≡ admitStream (namespace (decode (now (b .entry)) .volume)) r file (asLeaf path leaf)) ⌝ }
+{
+    let access = grant(b, r, file, r.access | WRITE_DATA);
     let Access::Granted(granted) = access else {
-        return Pending::Refused(Status::AccessDenied);
+        return PendingOpen::Refused(Status::AccessDenied);
     };
     if read_mark(b) {
-        return Pending::Refused(Status::MediaWriteProtected);
+        return PendingOpen::Refused(Status::MediaWriteProtected);
     }
-    Pending::NewStream(StreamToAdd {
+    let f = read_file(b, file);
+    PendingOpen::NewStream(StreamToAdd {
         file,
         leaf,
         attributes: f.attributes | ARCHIVE,
@@ -214,27 +231,38 @@ fn admit_stream(b: &[u8], r: Request, file: FileNo, leaf: LeafParts) -> Pending 
     })
 }
 
-pub fn admit(b: &[u8], r: Request, path: &[u16], target: Target) -> Pending {
+// The access to a stream that was found.
+fn admit_found(b: &[u8], r: Request, file: FileNo, stream: StreamNo, unnamed: bool) -> PendingOpen
+    requires { ⌜ length (now b) ≡ tablesSize ⌝ }
+    ensures { λ x. ⌜ ((path : List ℕ) → asPending (decode (now (b .entry)) .volume .files) path x ≡ cond (oneOf (r .disposition) (openOnly ∷ openIf ∷ [])) (admitOpen (namespace (decode (now (b .entry)) .volume)) r file stream asOffered) (admitReplace (namespace (decode (now (b .entry)) .volume)) r file stream unnamed)) ⌝ }
+{
+    if only_opens(r) {
+        admit_open(b, r, file, stream, SharingRule::AsOffered)
+    } else {
+        admit_replace(b, r, file, stream, unnamed)
+    }
+}
+
+// The access to a target.
+pub fn admit(b: &[u8], r: Request, path: &[u16], target: FoundTarget) -> PendingOpen
+    requires { ⌜ length (now b) ≡ tablesSize ⌝ }
+    ensures { λ x. ⌜ asPending (decode (now (b .entry)) .volume .files) (now (path .entry)) x ≡ admitted (namespace (decode (now (b .entry)) .volume)) r (asTarget (now (path .entry)) target) ⌝ }
+{
     match target {
-        Target::Refused(status) => Pending::Refused(status),
-        Target::Directory(at, stream) => {
+        FoundTarget::Refused(status) => PendingOpen::Refused(status),
+        FoundTarget::Directory(at, stream) => {
             let file = at.file;
-            let f = read_file(b, file);
-            admit_open(r, f, file, stream, read_sharing(r, f))
+            admit_open(b, r, file, stream, read_sharing(r, read_file(b, file)))
         }
-        Target::Stream(at, leaf, stream) => {
+        FoundTarget::Stream(at, leaf, stream) => {
             let file = at.file;
-            let f = read_file(b, file);
-            if only_opens(r.disposition) {
-                return admit_open(r, f, file, stream, ReadSharing::AsOffered);
-            }
             let name = leaf.stream;
-            admit_replace(r, f, file, stream, part_of(path, name).len() == 0)
+            admit_found(b, r, file, stream, part_of(path, name).len() == 0)
         }
-        Target::NoStream(at, leaf) => {
+        FoundTarget::NoStream(at, leaf) => {
             let file = at.file;
             admit_stream(b, r, file, leaf)
         }
-        Target::NoFile(dir, leaf) => admit_file(b, r, dir, leaf),
+        FoundTarget::NoFile(dir, leaf) => admit_file(b, r, dir, leaf),
     }
 }

@@ -43,13 +43,30 @@ fn write_attributes(b: &mut [u8], file: FileNo, attributes: u32) {
     let f = read_file(b, file);
     let file_type = f.file_type;
     let masks = f.masks;
-    write_file(b, file, File { file_type, attributes, masks });
+    write_file(
+        b,
+        file,
+        File {
+            file_type,
+            attributes,
+            masks,
+        },
+    );
 }
 
 fn write_new_stream(b: &mut [u8], n: StreamNo, file: FileNo, stream_type: FileType, name: &[u16]) {
     let stored = stored_file_name(name);
     let counts = read_counts(b, n);
-    write_stream(b, n, Stream { file, stream_type, name: stored, counts });
+    write_stream(
+        b,
+        n,
+        Stream {
+            file,
+            stream_type,
+            name: stored,
+            counts,
+        },
+    );
 }
 
 fn apply_stream(b: &mut [u8], path: &[u16], s: StreamToAdd, n: StreamNo) {
@@ -67,10 +84,32 @@ fn apply_file(b: &mut [u8], path: &[u16], f: FileToAdd, at: FileSlots) {
     let leaf = f.leaf;
     let file_name = leaf.file;
     let stream_name = leaf.stream;
-    write_file(b, at.file, File { file_type, attributes: f.attributes, masks });
+    write_file(
+        b,
+        at.file,
+        File {
+            file_type,
+            attributes: f.attributes,
+            masks,
+        },
+    );
     let stored = stored_file_name(part_of(path, file_name));
-    write_link(b, at.link, Link { parent: f.dir, name: stored, file: at.file });
-    write_new_stream(b, at.unnamed, at.file, file_type, part_of(path, Part { start: 0, end: 0 }));
+    write_link(
+        b,
+        at.link,
+        Link {
+            parent: f.dir,
+            name: stored,
+            file: at.file,
+        },
+    );
+    write_new_stream(
+        b,
+        at.unnamed,
+        at.file,
+        file_type,
+        part_of(path, Part { start: 0, end: 0 }),
+    );
     if at.opened.0 != at.unnamed.0 {
         write_new_stream(b, at.opened, at.file, file_type, part_of(path, stream_name));
     }
@@ -117,5 +156,15 @@ pub fn apply(b: &mut [u8], path: &[u16], a: Accepted) {
     let stream = stream_of(placed);
     let handle = a.handle;
     apply_placed(b, path, placed);
-    store_open(b, a.row, Open { handle, file, stream, granted: a.granted, share: a.share });
+    store_open(
+        b,
+        a.row,
+        Open {
+            handle,
+            file,
+            stream,
+            granted: a.granted,
+            share: a.share,
+        },
+    );
 }

@@ -3,13 +3,13 @@
 mod apply;
 mod closing;
 
+use crate::apply::apply;
+use crate::closing::close_row;
 use admit::admit;
 use audit::audit;
 use complete::Accepted;
 use complete::Decision;
 use complete::complete;
-use crate::apply::apply;
-use crate::closing::close_row;
 use open_table::OpenSlot;
 use open_table::find_open;
 use records::Answer;
@@ -47,7 +47,9 @@ pub fn open(b: &mut [u8], r: Request, path: &[u16]) -> Answer {
     }
     let decision = decide(b, r, path);
     let Decision::Accepted(accepted) = decision else {
-        let Decision::Refused(status) = decision else { return done(); };
+        let Decision::Refused(status) = decision else {
+            return done();
+        };
         return refused(status);
     };
     apply(b, path, accepted);

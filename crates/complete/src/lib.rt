@@ -140,7 +140,13 @@ fn complete_existing(b: &[u8], e: ExistingOpen) -> Decision {
         Sharing::Mode(share) => {
             let action = e.action;
             let attributes = e.attributes;
-            placed_at(b, action, Placed::Existing(file, stream, attributes), e.granted, share)
+            placed_at(
+                b,
+                action,
+                Placed::Existing(file, stream, attributes),
+                e.granted,
+                share,
+            )
         }
     }
 }
@@ -150,7 +156,13 @@ fn complete_stream(b: &[u8], s: StreamToAdd) -> Decision {
     let StreamSlot::At(stream) = slot else {
         return Decision::Refused(Status::DiskFull);
     };
-    placed_at(b, CreateAction::Created, Placed::NewStream(s, stream), s.granted, s.share)
+    placed_at(
+        b,
+        CreateAction::Created,
+        Placed::NewStream(s, stream),
+        s.granted,
+        s.share,
+    )
 }
 
 // The slots that a new file takes, or that there are too few.
@@ -185,7 +197,12 @@ fn file_place(b: &[u8], named: bool) -> FilePlace {
     let StreamSlot::At(opened) = second else {
         return FilePlace::Full;
     };
-    FilePlace::At(FileSlots { file, link, unnamed, opened })
+    FilePlace::At(FileSlots {
+        file,
+        link,
+        unnamed,
+        opened,
+    })
 }
 
 fn complete_file(b: &[u8], path: &[u16], f: FileToAdd) -> Decision {
@@ -194,7 +211,13 @@ fn complete_file(b: &[u8], path: &[u16], f: FileToAdd) -> Decision {
     let place = file_place(b, part_of(path, name).len() != 0);
     match place {
         FilePlace::Full => Decision::Refused(Status::DiskFull),
-        FilePlace::At(slots) => placed_at(b, CreateAction::Created, Placed::NewFile(f, slots), f.granted, f.share),
+        FilePlace::At(slots) => placed_at(
+            b,
+            CreateAction::Created,
+            Placed::NewFile(f, slots),
+            f.granted,
+            f.share,
+        ),
     }
 }
 

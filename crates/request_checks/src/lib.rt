@@ -4,13 +4,15 @@ use records::constants::APPEND_DATA;
 use records::constants::CREATE;
 use records::constants::DIRECTORY_FILE;
 use records::constants::NON_DIRECTORY_FILE;
+use records::constants::OPEN_IF;
+use records::constants::OPEN_ONLY;
 use records::constants::OVERWRITE;
 use records::constants::OVERWRITE_IF;
 use records::constants::SUPERSEDE;
 ghost use mathlib.Core.Path.{_≡_};
 ghost use mathlib.Core.List.{[], _∷_};
 ghost use Rattle.lists.specs.Lists.{oneOf};
-ghost use Rattle.records.specs.Constants.{supersede, overwrite, overwriteIf};
+ghost use Rattle.records.specs.Constants.{supersede, openOnly, openIf, overwrite, overwriteIf};
 ghost use Rattle.store.specs.Request.{wantsDirectory, wantsFile, badParameters, badAccess, wantsBoth, writesVolume};
 
 // A directory is asked for.
@@ -70,4 +72,18 @@ pub fn writes_volume(r: Request) -> bool
         | (r.disposition == CREATE)
         | (r.disposition == OVERWRITE)
         | (r.disposition == OVERWRITE_IF)
+}
+
+// The disposition opens what is there as it is: open, open-if.
+pub fn only_opens(r: Request) -> bool
+    ensures { λ x. ⌜ x ≡ oneOf (r .disposition) (openOnly ∷ openIf ∷ []) ⌝ }
+{
+    (r.disposition == OPEN_ONLY) | (r.disposition == OPEN_IF)
+}
+
+// The disposition adds nothing where something is missing: open, overwrite.
+pub fn adds_nothing(r: Request) -> bool
+    ensures { λ x. ⌜ x ≡ oneOf (r .disposition) (openOnly ∷ overwrite ∷ []) ⌝ }
+{
+    (r.disposition == OPEN_ONLY) | (r.disposition == OVERWRITE)
 }

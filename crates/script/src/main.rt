@@ -13,7 +13,9 @@ fn main() {
     let mut at = 0;
     while at < count {
         let mut end = at;
-        while end < count && input[end] != 0x0A { end += 1; }
+        while end < count && input[end] != 0x0A {
+            end += 1;
+        }
         let p = script_lines::answer_line(&mut tables, &input[at..end]);
         let bytes = p.bytes;
         let n = p.count;

@@ -86,7 +86,11 @@ pub struct Printed {
 }
 
 fn hex_digit(n: u32) -> u8 {
-    if n < 10 { 0x30 + n as u8 } else { 0x37 + n as u8 }
+    if n < 10 {
+        0x30 + n as u8
+    } else {
+        0x37 + n as u8
+    }
 }
 
 pub fn status_number(s: Status) -> u32 {
@@ -179,7 +183,10 @@ pub fn print(o: Outcome) -> Printed {
     bytes[10] = SPACE;
     let end = put_decimal(&mut bytes, 11, handle_of(o));
     bytes[end] = 0x0A;
-    Printed { bytes, count: end + 1 }
+    Printed {
+        bytes,
+        count: end + 1,
+    }
 }
 
 fn unknown() -> Printed {

@@ -9,4 +9,4 @@ unfolding oneOf any
 returns c = simp (or-assoc, or-false)
 
 pub replaces-spec : {M : Type 1} → statement M
-replaces-spec = tie.close (tie.spec  returns)
+replaces-spec = tie.close (tie.spec returns)

@@ -10,4 +10,4 @@ unfolding writesVolume oneOf any
 returns c = simp (or-assoc, or-false)
 
 pub writes-volume-spec : {M : Type 1} → statement M
-writes-volume-spec = tie.close (tie.spec  returns)
+writes-volume-spec = tie.close (tie.spec returns)
