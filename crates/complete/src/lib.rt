@@ -1,10 +1,4 @@
 // Whether a pending open is accepted (the sharing check, step 10's share-read rule and step 12), and where its records go.
-use admit::ExistingOpen;
-use admit::FileToAdd;
-use admit::NewAttributes;
-use admit::Pending;
-use admit::ReadSharing;
-use admit::StreamToAdd;
 use components::part_of;
 use free_slots::FileSlot;
 use free_slots::LinkSlot;
@@ -12,62 +6,60 @@ use free_slots::StreamSlot;
 use free_slots::free_file;
 use free_slots::free_link;
 use free_slots::free_stream;
+use open_steps::AcceptedOpen;
+use open_steps::DecidedOpen;
+use open_steps::ExistingOpen;
+use open_steps::FileSlots;
+use open_steps::FileToAdd;
+use open_steps::PendingOpen;
+use open_steps::PlacedOpen;
+use open_steps::SharingRule;
+use open_steps::StreamToAdd;
 use open_table::OpenSlot;
 use open_table::file_has_open;
 use open_table::free_open;
-use paths::LeafParts;
 use records::CreateAction;
 use records::FileNo;
-use records::FileType;
 use records::Handle;
-use records::LinkNo;
 use records::Status;
 use records::StreamNo;
 use records::constants::SHARE_READ;
 use records_streams::read_counts;
 use records_volume::read_next;
 use sharing::share_check;
+ghost use Prim.Native.Nat.{ℕ};
+ghost use mathlib.Core.Path.{_≡_};
+ghost use mathlib.Core.Bool.{not};
+ghost use mathlib.Core.List.{List};
+ghost use lib.ListN.{length};
+ghost use Rattle.records.specs.Terms.{Terms};
+ghost use Rattle.records.specs.Namespace.{namespace};
+ghost use Rattle.layout.specs.Layout.{tablesSize, decode};
+ghost use Rattle.paths.specs.Positions.{asLeaf};
+ghost use Rattle.open_table.specs.Rows.{fileHasOpen};
+ghost use Rattle.free_slots.specs.Free.{streamSlot};
+ghost use Rattle.store.specs.Prepare.{existing, creating, newStream, newFile};
+ghost use Rattle.store.specs.Complete.{shareOf};
+ghost use Rattle.store.specs.Complete as definitions;
+ghost use Rattle.store.specs.Store.{storeView};
+ghost use Rattle.open_steps.specs.Pendings.{termsOver, asReadSharing, asExisting, asFile, asPending};
+ghost use Rattle.open_steps.specs.Decisions.{asPlaced};
+ghost use Rattle.complete.specs.Placing.{PlacesOpen, asTerms, openedSlot, fileSlots, asFilePlace, finished, Decides, completed};
 
 // The last value of the next handle, at which no open is accepted any more.
 const LAST_HANDLE: u64 = 0xFFFF_FFFF_FFFF_FFFF;
 
-// The slots of a new file, its link and its streams: the one without a name, and the one that is opened.
-pub struct FileSlots {
-    pub file: FileNo,
-    pub link: LinkNo,
-    pub unnamed: StreamNo,
-    pub opened: StreamNo,
-}
-
-// What an accepted open adds or changes, and where.
-pub enum Placed {
-    Existing(FileNo, StreamNo, NewAttributes),
-    NewStream(StreamToAdd, StreamNo),
-    NewFile(FileToAdd, FileSlots),
-}
-
-// An accepted open, with the row that it takes.
-pub struct Accepted {
-    pub action: CreateAction,
-    pub placed: Placed,
-    pub granted: u32,
-    pub share: u32,
-    pub handle: Handle,
-    pub row: usize,
-}
-
-pub enum Decision {
-    Refused(Status),
-    Accepted(Accepted),
-}
-
-// Step 12, the open's row and handle.
-pub enum OpenPlace {
+// The open's row and handle, or that it has none.
+enum OpenPlace {
     Refused(Status),
     At(usize, Handle),
 }
 
-fn open_place(b: &[u8]) -> OpenPlace {
+// Step 12: the open's row and handle.
+fn open_place(b: &[u8]) -> OpenPlace
+    requires { ⌜ length (now b) ≡ tablesSize ⌝ }
+    ensures { λ x. ⌜ PlacesOpen (decode (now (b .entry))) x ⌝ }
+{
     let slot = free_open(b);
     let OpenSlot::At(row) = slot else {
         return OpenPlace::Refused(Status::TooManyOpenedFiles);
@@ -79,44 +71,46 @@ fn open_place(b: &[u8]) -> OpenPlace {
     OpenPlace::At(row, next)
 }
 
-// Step 10's end: the sharing mode that the open is stored and counted with.
-pub enum Sharing {
+// The sharing mode that an open is stored and counted with, or a refusal.
+enum SharingMode {
     Refused(Status),
     Mode(u32),
 }
 
-fn sharing_mode(rule: ReadSharing, alone: bool, share: u32) -> Sharing {
+// Step 10's end.
+fn sharing_mode(rule: SharingRule, alone: bool, share: u32) -> SharingMode
+    ensures { λ x. ⌜ ((granted : ℕ) → asTerms granted x ≡ shareOf (asReadSharing rule) alone (termsOver granted share)) ⌝ }
+{
+    if !alone {
+        return SharingMode::Mode(share);
+    }
     match rule {
-        ReadSharing::AsOffered => Sharing::Mode(share),
-        ReadSharing::AddedIfAlone => {
-            if alone {
-                return Sharing::Mode(share | SHARE_READ);
-            }
-            Sharing::Mode(share)
-        }
-        ReadSharing::DeniedIfAlone => {
-            if alone {
-                return Sharing::Refused(Status::AccessDenied);
-            }
-            Sharing::Mode(share)
-        }
+        SharingRule::AsOffered => SharingMode::Mode(share),
+        SharingRule::AddedIfAlone => SharingMode::Mode(share | SHARE_READ),
+        SharingRule::DeniedIfAlone => SharingMode::Refused(Status::AccessDenied),
     }
 }
 
-// Whether the file has no open: asked only where it matters.
-fn alone_if_asked(b: &[u8], rule: ReadSharing, file: FileNo) -> bool {
+// Whether the file has no open: looked for only where that matters.
+fn alone_if_asked(b: &[u8], rule: SharingRule, file: FileNo) -> bool
+    requires { ⌜ length (now b) ≡ tablesSize ⌝ }
+    ensures { λ x. ⌜ ((t : Terms) → shareOf (asReadSharing rule) x t ≡ shareOf (asReadSharing rule) (not (fileHasOpen (decode (now (b .entry)) .opens .rows) file)) t) ⌝ }
+{
     match rule {
-        ReadSharing::AsOffered => false,
-        ReadSharing::AddedIfAlone | ReadSharing::DeniedIfAlone => !file_has_open(b, file),
+        SharingRule::AsOffered => false,
+        SharingRule::AddedIfAlone | SharingRule::DeniedIfAlone => !file_has_open(b, file),
     }
 }
 
 // Step 12's end: the open with its row and handle.
-fn placed_at(b: &[u8], action: CreateAction, placed: Placed, granted: u32, share: u32) -> Decision {
+fn finish(b: &[u8], action: CreateAction, placed: PlacedOpen, granted: u32, share: u32) -> DecidedOpen
+    requires { ⌜ length (now b) ≡ tablesSize ⌝ }
+    ensures { λ x. ⌜ ((path : List ℕ) → Decides (decode (now (b .entry))) path x (finished (storeView (decode (now (b .entry)))) action (asPlaced (namespace (decode (now (b .entry)) .volume)) path placed) (termsOver granted share))) ⌝ }
+{
     let place = open_place(b);
     match place {
-        OpenPlace::Refused(status) => Decision::Refused(status),
-        OpenPlace::At(row, handle) => Decision::Accepted(Accepted {
+        OpenPlace::Refused(status) => DecidedOpen::Refused(status),
+        OpenPlace::At(row, handle) => DecidedOpen::Accepted(AcceptedOpen {
             action,
             placed,
             granted,
@@ -127,52 +121,51 @@ fn placed_at(b: &[u8], action: CreateAction, placed: Placed, granted: u32, share
     }
 }
 
-fn complete_existing(b: &[u8], e: ExistingOpen) -> Decision {
+// The sharing check of a stream that is there, then step 10's share-read rule.
+fn complete_existing(b: &[u8], e: ExistingOpen) -> DecidedOpen
+    requires { ⌜ length (now b) ≡ tablesSize ⌝ }
+    ensures { λ x. ⌜ ((path : List ℕ) → Decides (decode (now (b .entry))) path x (definitions.complete (storeView (decode (now (b .entry)))) (namespace (decode (now (b .entry)) .volume)) (existing (asExisting e)))) ⌝ }
+{
     let stream = e.stream;
     let file = e.file;
     let rule = e.read_sharing;
     if share_check(read_counts(b, stream), e.granted, e.share) {
-        return Decision::Refused(Status::SharingViolation);
+        return DecidedOpen::Refused(Status::SharingViolation);
     }
     let sharing = sharing_mode(rule, alone_if_asked(b, rule, file), e.share);
     match sharing {
-        Sharing::Refused(status) => Decision::Refused(status),
-        Sharing::Mode(share) => {
+        SharingMode::Refused(status) => DecidedOpen::Refused(status),
+        SharingMode::Mode(share) => {
             let action = e.action;
             let attributes = e.attributes;
-            placed_at(
-                b,
-                action,
-                Placed::Existing(file, stream, attributes),
-                e.granted,
-                share,
-            )
+            finish(b, action, PlacedOpen::Existing(file, stream, attributes), e.granted, share)
         }
     }
 }
 
-fn complete_stream(b: &[u8], s: StreamToAdd) -> Decision {
+// Step 12 for a new stream.
+fn complete_stream(b: &[u8], s: StreamToAdd) -> DecidedOpen
+    requires { ⌜ length (now b) ≡ tablesSize ⌝ }
+    ensures { λ x. ⌜ ((path : List ℕ) → Decides (decode (now (b .entry))) path x (definitions.complete (storeView (decode (now (b .entry)))) (namespace (decode (now (b .entry)) .volume)) (creating (newStream (s .file) (asLeaf path (s .leaf)) (s .attributes)) (termsOver (s .granted) (s .share))))) ⌝ }
+{
     let slot = free_stream(b, 0);
     let StreamSlot::At(stream) = slot else {
-        return Decision::Refused(Status::DiskFull);
+        return DecidedOpen::Refused(Status::DiskFull);
     };
-    placed_at(
-        b,
-        CreateAction::Created,
-        Placed::NewStream(s, stream),
-        s.granted,
-        s.share,
-    )
+    finish(b, CreateAction::Created, PlacedOpen::NewStream(s, stream), s.granted, s.share)
 }
 
 // The slots that a new file takes, or that there are too few.
-pub enum FilePlace {
+enum FilePlace {
     Full,
     At(FileSlots),
 }
 
 // The stream that is opened: one of its own where the path names one.
-fn opened_slot(b: &[u8], unnamed: StreamNo, named: bool) -> StreamSlot {
+fn opened_slot(b: &[u8], unnamed: StreamNo, named: bool) -> StreamSlot
+    requires { ⌜ length (now b) ≡ tablesSize ⌝ }
+    ensures { λ x. ⌜ streamSlot x ≡ openedSlot (namespace (decode (now (b .entry)) .volume)) unnamed named ⌝ }
+{
     if named {
         free_stream(b, unnamed.0 as usize + 1)
     } else {
@@ -180,7 +173,11 @@ fn opened_slot(b: &[u8], unnamed: StreamNo, named: bool) -> StreamSlot {
     }
 }
 
-fn file_place(b: &[u8], named: bool) -> FilePlace {
+// Step 12 for a new file: its slots.
+fn file_place(b: &[u8], named: bool) -> FilePlace
+    requires { ⌜ length (now b) ≡ tablesSize ⌝ }
+    ensures { λ x. ⌜ asFilePlace x ≡ fileSlots (namespace (decode (now (b .entry)) .volume)) named ⌝ }
+{
     let file_slot = free_file(b);
     let FileSlot::At(file) = file_slot else {
         return FilePlace::Full;
@@ -205,27 +202,28 @@ fn file_place(b: &[u8], named: bool) -> FilePlace {
     })
 }
 
-fn complete_file(b: &[u8], path: &[u16], f: FileToAdd) -> Decision {
+fn complete_file(b: &[u8], path: &[u16], f: FileToAdd) -> DecidedOpen
+    requires { ⌜ length (now b) ≡ tablesSize ⌝ }
+    ensures { λ x. ⌜ Decides (decode (now (b .entry))) (now (path .entry)) x (definitions.complete (storeView (decode (now (b .entry)))) (namespace (decode (now (b .entry)) .volume)) (creating (newFile (f .dir) (asLeaf (now (path .entry)) (f .leaf)) (asFile (decode (now (b .entry)) .volume .files) f)) (termsOver (f .granted) (f .share)))) ⌝ }
+{
     let leaf = f.leaf;
     let name = leaf.stream;
     let place = file_place(b, part_of(path, name).len() != 0);
     match place {
-        FilePlace::Full => Decision::Refused(Status::DiskFull),
-        FilePlace::At(slots) => placed_at(
-            b,
-            CreateAction::Created,
-            Placed::NewFile(f, slots),
-            f.granted,
-            f.share,
-        ),
+        FilePlace::Full => DecidedOpen::Refused(Status::DiskFull),
+        FilePlace::At(slots) => finish(b, CreateAction::Created, PlacedOpen::NewFile(f, slots), f.granted, f.share),
     }
 }
 
-pub fn complete(b: &[u8], path: &[u16], pending: Pending) -> Decision {
+// Whether a pending open is accepted.
+pub fn complete(b: &[u8], path: &[u16], pending: PendingOpen) -> DecidedOpen
+    requires { ⌜ length (now b) ≡ tablesSize ⌝ }
+    ensures { λ x. ⌜ Decides (decode (now (b .entry))) (now (path .entry)) x (completed (storeView (decode (now (b .entry)))) (namespace (decode (now (b .entry)) .volume)) (asPending (decode (now (b .entry)) .volume .files) (now (path .entry)) pending)) ⌝ }
+{
     match pending {
-        Pending::Refused(status) => Decision::Refused(status),
-        Pending::Existing(e) => complete_existing(b, e),
-        Pending::NewStream(s) => complete_stream(b, s),
-        Pending::NewFile(f) => complete_file(b, path, f),
+        PendingOpen::Refused(status) => DecidedOpen::Refused(status),
+        PendingOpen::Existing(e) => complete_existing(b, e),
+        PendingOpen::NewStream(s) => complete_stream(b, s),
+        PendingOpen::NewFile(f) => complete_file(b, path, f),
     }
 }
