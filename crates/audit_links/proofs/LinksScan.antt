@@ -1,6 +1,6 @@
 -- What the audit's code computes of a link, and what the test asks.
 use Rattle.base.{specs.Base.{_≤_, _<_, _≡_, Bool, true, false, not, List, eqb, length, getD, replicate, same, fileSlots, fileNameLimit, fileUsed, linkUsed, zeroFile, File, Link}, proofs.Laws.{ap, ⊎-elim, arith, not-false, eqb-true, eq-eqb, ne-eqb, refuted, getD-default}}
-use Rattle.audit_names.proofs.StoredUnits.{zeros-stored}
+use Rattle.stored_names.proofs.StoredUnits.{zeros-stored}
 use Rattle.consistency.{specs.{Slots.slotTest, Good.{goodLink, isZeroLink, linkNamesDiffer}, Test.goodLinkOf}, proofs.{Slots.slot-passes, Numbered.{file-in, directory-file}, Links.link-decides}}
 use Rattle.stored_names.specs.StoredNames.{units, wellStored}
 use Rattle.tables.specs.Tables.{fileAt}

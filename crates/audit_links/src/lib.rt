@@ -1,7 +1,5 @@
 // The audit of the links table by itself: each link, then every two. The links and the parents of each file are
 // `audit_parents`.
-use audit_names::name_length;
-use audit_names::well_stored;
 use names::valid_file_name;
 use records::FileType;
 use records::Link;
@@ -12,6 +10,8 @@ use records::sizes::LINK_SLOTS;
 use records::slots::is_directory;
 use records::slots::is_used;
 use records::slots::link_used;
+use stored_names::name_length;
+use stored_names::well_stored;
 ghost use mathlib.Core.Path.{_≡_};
 ghost use mathlib.Core.Bool.{not, false, _&&_, _||_};
 ghost use Rattle.lists.specs.Lists.{all, keep, pairs};
@@ -34,14 +34,14 @@ fn is_zero_link(l: Link) -> bool
         return false;
     }
     let name = l.name;
-    well_stored(name)
+    well_stored(&name)
 }
 
 // The name of a link is a valid one.
 fn valid_stored_name(name: [u16; FILE_NAME_LIMIT]) -> bool
     ensures { λ r. ⌜ r ≡ validFileName fileNameLimit (units name) ⌝ }
 {
-    let n = name_length(name);
+    let n = name_length(&name);
     valid_file_name(&name[..n])
 }
 
@@ -50,7 +50,7 @@ fn good_link(l: Link, of: FileType, above: FileType) -> bool
     ensures { λ r. ⌜ r ≡ goodLink of above l ⌝ }
 {
     let name = l.name;
-    if !well_stored(name) {
+    if !well_stored(&name) {
         return false;
     }
     if !valid_stored_name(name) {
@@ -108,7 +108,7 @@ fn differ(l: Link, m: Link) -> bool
     }
     let a = l.name;
     let b = m.name;
-    !stored_names::same_names(a, b)
+    !stored_names::same_names(&a, &b)
 }
 
 fn names_differ(v: Volume) -> bool

@@ -1,7 +1,7 @@
 -- `audit_links::valid_stored_name` meets its contract: the part before the first zero is the name's units.
 use Rattle.base.{specs.Base.{ℕ, take, fileNameLimit}, proofs.Laws.{sym, ap, _∙_, arith, needs}}
 use lib.Seq.{length-take-le}
-use Rattle.audit_names.proofs.StoredUnits.{units-taken, units-fit}
+use Rattle.stored_names.proofs.StoredUnits.{units-taken, units-fit}
 use Rattle.names.specs.Names.{validFileName}
 use Rattle.audit_links.proofs.valid_stored_name.Statement.{statement}
 use Rattle.audit_links.proofs.valid_stored_name.Tie as tie

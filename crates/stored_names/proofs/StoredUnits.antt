@@ -1,8 +1,9 @@
 -- A stored name's units: they are a part of it, there are none exactly where the first place is zero, and the places after
 -- them are zero exactly where the name is well stored.
 use Rattle.base.{specs.Base.{ℕ, zero, suc, _-_, _≤_, _<_, _≡_, Bool, false, _&&_, List, [], _∷_, _++_, eqb, length, getD, take, drop, replicate, all, same, isEmpty, padded}, proofs.Laws.{refl, sym, ap, _∙_, arith, same-differs, same-append}}
-use lib.{Dec.eqb·suc-zero, ListN.length-append, Seq.take-append-seam}
-use Rattle.stored_names.{specs.StoredNames.{units, wellStored}, proofs.NameUnits.units-end}
+use lib.{ListN.length-append, Seq.take-append-seam}
+use Rattle.stored_names.proofs.NameUnits.{units-end, units-none}
+use Rattle.stored_names.specs.StoredNames.{units, wellStored}
 
 -- a name is its units and what follows them
 units-prefix : (n : List ℕ) → units n ++ drop (length (units n)) n ≡ n
@@ -20,10 +21,7 @@ module _ (n : List ℕ) where
 
 -- the empty name
 pub units-empty : (n : List ℕ) → isEmpty (units n) ≡ eqb (getD n 0 0) 0
-unfolding isEmpty units
-units-empty [] = refl
-units-empty (zero ∷ us) = refl
-units-empty (suc u ∷ us) = sym (eqb·suc-zero u)
+units-empty n = units-none n 0
 
 abbrev pub isZero : ℕ → Bool
 isZero u = eqb u 0
@@ -33,15 +31,15 @@ unfolding same all
 zeros [] = refl
 zeros (x ∷ xs) = ap (λ (b : Bool). eqb x 0 && b) (zeros xs)
 
--- a name that has all its places is well stored when those after its units are zero
-pub well-stored : (n : List ℕ) (limit : ℕ) → length n ≡ limit → wellStored limit n ≡ all isZero (drop (length (units n)) n)
+-- a name is well stored when its places after its units are zero
+pub well-stored : (n : List ℕ) → wellStored (length n) n ≡ all isZero (drop (length (units n)) n)
 unfolding wellStored padded
-well-stored n limit e =
+well-stored n =
     let u = units n in
     let t = drop (length u) n in
     let split : u ++ t ≡ n = units-prefix n in
-    let rest : limit - length u ≡ length t = omega (arith, length-append u t, ap length split) in
-    ap (λ (l : List ℕ). same l (u ++ replicate (limit - length u) 0)) (sym split)
+    let rest : length n - length u ≡ length t = omega (arith, length-append u t, ap length split) in
+    ap (λ (l : List ℕ). same l (u ++ replicate (length n - length u) 0)) (sym split)
     ∙ ap (λ (k : ℕ). same (u ++ t) (u ++ replicate k 0)) rest
     ∙ same-append u t (replicate (length t) 0)
     ∙ zeros t
