@@ -26,7 +26,7 @@ units-empty n = units-none n 0
 abbrev pub isZero : ℕ → Bool
 isZero u = eqb u 0
 
-zeros : (xs : List ℕ) → same xs (replicate (length xs) 0) ≡ all isZero xs
+pub zeros : (xs : List ℕ) → same xs (replicate (length xs) 0) ≡ all isZero xs
 unfolding same all
 zeros [] = refl
 zeros (x ∷ xs) = ap (λ (b : Bool). eqb x 0 && b) (zeros xs)

@@ -1,8 +1,9 @@
 // Names as they stand in a record, zeros after the last unit. A name is lent, whatever its places.
 use units::folded_unit;
 ghost use mathlib.Core.Path.{_≡_};
-ghost use lib.ListN.{length, getD};
-ghost use Rattle.lists.specs.Lists.{same};
+ghost use lib.Dec.{eqb};
+ghost use lib.ListN.{length, getD, drop, replicate};
+ghost use Rattle.lists.specs.Lists.{all, same};
 ghost use Rattle.units.specs.Units.{equalUnits};
 ghost use Rattle.stored_names.specs.StoredNames.{units, wellStored};
 
@@ -62,11 +63,11 @@ pub fn name_length(name: &[u16]) -> usize
     i
 }
 
-// Whether every place after a stored name's last unit is zero.
-pub fn well_stored(name: &[u16]) -> bool
-    ensures { λ r. ⌜ r ≡ wellStored (length (now (name .entry))) (now (name .entry)) ⌝ }
+// Whether every place from one on is zero.
+fn zero_from(name: &[u16], from: usize) -> bool
+    ensures { λ r. ⌜ r ≡ all (λ u. eqb u 0) (drop from (now (name .entry))) ⌝ }
 {
-    let mut at = name_length(name);
+    let mut at = from;
     while at < name.len() {
         if name[at] != 0 {
             return false;
@@ -74,4 +75,18 @@ pub fn well_stored(name: &[u16]) -> bool
         at += 1;
     }
     true
+}
+
+// Whether every place after a stored name's last unit is zero.
+pub fn well_stored(name: &[u16]) -> bool
+    ensures { λ r. ⌜ r ≡ wellStored (length (now (name .entry))) (now (name .entry)) ⌝ }
+{
+    zero_from(name, name_length(name))
+}
+
+// Whether a stored name is all zero.
+pub fn zero_name(name: &[u16]) -> bool
+    ensures { λ r. ⌜ r ≡ same (now (name .entry)) (replicate (length (now (name .entry))) 0) ⌝ }
+{
+    zero_from(name, 0)
 }
