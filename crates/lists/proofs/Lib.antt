@@ -13,4 +13,5 @@ pub mod Permutations
 pub mod Set
 pub mod Pigeonhole
 pub mod Keyed
+pub mod Counted
 pub mod Back
