@@ -1,56 +1,25 @@
 // The audit of the files table.
+use masks::valid_masks;
+use masks::zero_masks;
 use records::File;
 use records::Volume;
-use records::constants::ALL_ACCESS;
 use records::constants::DIRECTORY;
 use records::constants::FILE_ATTRIBUTES;
-use records::sizes::ACCOUNTS;
 use records::sizes::FILE_SLOTS;
 use records::slots::file_used;
 use records::slots::is_directory;
 ghost use mathlib.Core.Path.{_≡_};
-ghost use lib.ListN.{replicate};
-ghost use Rattle.lists.specs.Lists.{same};
-ghost use Rattle.records.specs.Sizes.{accounts};
 ghost use Rattle.records.specs.Slots.{fileUsed};
-ghost use Rattle.consistency.specs.Relations.{validMasks};
 ghost use Rattle.consistency.specs.Slots.{slotTest};
 ghost use Rattle.consistency.specs.Good.{goodFile, isZeroFile};
 ghost use Rattle.consistency.specs.Test.{filesTest};
-
-// Whether each mask is within all access.
-pub fn valid_masks(masks: [u32; ACCOUNTS]) -> bool
-    ensures { λ r. ⌜ r ≡ validMasks masks ⌝ }
-{
-    let mut account: usize = 0;
-    while account < ACCOUNTS {
-        if !bits::within(masks[account], ALL_ACCESS) {
-            return false;
-        }
-        account += 1;
-    }
-    true
-}
-
-fn zero_masks(masks: [u32; ACCOUNTS]) -> bool
-    ensures { λ r. ⌜ r ≡ same masks (replicate accounts 0) ⌝ }
-{
-    let mut i: usize = 0;
-    while i < ACCOUNTS {
-        if masks[i] != 0 {
-            return false;
-        }
-        i += 1;
-    }
-    true
-}
 
 // What a free slot has beside its kind is zero.
 fn is_zero_file(f: File) -> bool
     ensures { λ r. ⌜ r ≡ isZeroFile f ⌝ }
 {
     let masks = f.masks;
-    f.attributes == 0 && zero_masks(masks)
+    f.attributes == 0 && zero_masks(&masks)
 }
 
 // A used slot has attributes that a file may have, the directory bit exactly on a directory, and valid masks.
@@ -65,7 +34,7 @@ fn good_file(f: File) -> bool
         return false;
     }
     let masks = f.masks;
-    valid_masks(masks)
+    valid_masks(&masks)
 }
 
 fn slot_consistent(f: File) -> bool

@@ -1,7 +1,8 @@
 -- The opens counted in one pass: the counts of every stream, by its number, of the rows from a place on.
 use Rattle.base.{specs.Base.{ℕ, _≤_, _<_, _≡_, Bool, true, false, List, _∷_, length, getD, drop, replicate, allFrom, count, keep, openUsed, zeroCounts, Open, ShareCounts, StreamNo, Stream}, proofs.Laws.{refl, sym, _∙_, ap, arith, drop-of-length-le, getD-replicate, eq-eqb, by-cases, numbered-same, count-bound, keep-yes, keep-no, length-keep, Noted, keyed}}
-use Rattle.consistency.specs.{Relations.live, Test.{sameCounts, countsTest}}
+use Rattle.consistency.specs.Test.{sameCounts, countsTest}
 use Rattle.sharing.{specs.{Sharing.{onStream, countsOf, countsOfAll}, Saturating.withOpenUpTo}, proofs.{Counts.{counts-cons, counts-skip}, UpTo.up-to-counts}}
+use Rattle.tables.specs.Tables.{live}
 
 -- the stream with a number, that of an open, and what rows say of it: the counts of its live opens
 abbrev stream : ℕ → StreamNo

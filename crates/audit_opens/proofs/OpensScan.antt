@@ -1,10 +1,10 @@
 -- The pass over the open table from its last row: each row passes its test, its key is its handle, and the counts are
 -- those of the rows passed. And what the pass says of the whole test.
 use Rattle.base.{specs.Base.{ℕ, _-_, _≤_, _<_, _≡_, Bool, true, false, _&&_, _⊎_, List, [], map, length, getD, set, drop, replicate, all, allFrom, keep, pairs, streamSlots, openSlots, openUsed, BareStream, bare, bareUsed, zeroCounts, zeroOpen, FileType, FileNo, ShareCounts, Stream, Open}, proofs.Laws.{refl, sym, _∙_, ap, arith, length-set, length-drop, eq-eqb, le-leb, Noted, back-set, back-skip, Scanned, scan-none, scan-fails, scan-back, scan-end}}
-use Rattle.consistency.{specs.{Relations.live, Slots.{slotTest, slotsTest}, Good.{goodOpen, isZeroOpen, handlesDiffer}, Test.{goodOpenOf, opensTest, countsTest}}, proofs.Derived.bare-at}
+use Rattle.consistency.{specs.{Slots.{slotTest, slotsTest}, Good.{goodOpen, isZeroOpen, handlesDiffer}, Test.{goodOpenOf, opensTest, countsTest}}, proofs.Derived.bare-at}
 use Rattle.distinct.{specs.Keys.{isKey, differ}, proofs.Tells.keys-pairs}
 use Rattle.sharing.specs.Saturating.{countLimit, withOpenUpTo}
-use Rattle.tables.specs.Tables.{streamAt}
+use Rattle.tables.specs.Tables.{streamAt, live}
 use Rattle.audit_opens.proofs.CountsScan.{streamNo, countsOn, none-counted, counts-own, counts-other, foundTest, counts-found}
 
 abbrev pub handleNo : Open → ℕ

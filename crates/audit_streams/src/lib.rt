@@ -1,6 +1,4 @@
 // The audit of the streams table: each stream by itself, then every two used streams, then the streams of each file.
-use audit_names::name_length;
-use audit_names::well_stored;
 use names::valid_stream_name;
 use records::File;
 use records::FileType;
@@ -13,7 +11,9 @@ use records::slots::file_used;
 use records::slots::is_directory;
 use records::slots::is_used;
 use records::slots::stream_used;
+use stored_names::name_length;
 use stored_names::same_names;
+use stored_names::well_stored;
 ghost use Prim.Native.Nat.{ℕ, _<_};
 ghost use mathlib.Core.Path.{_≡_};
 ghost use mathlib.Core.Bool.{cond, not, _&&_, _||_};
@@ -48,14 +48,14 @@ fn is_unnamed(name: [u16; STREAM_NAME_LIMIT]) -> bool
 fn zero_name(name: [u16; STREAM_NAME_LIMIT]) -> bool
     ensures { λ r. ⌜ r ≡ same name (replicate streamNameLimit 0) ⌝ }
 {
-    name[0] == 0 && well_stored(name)
+    name[0] == 0 && well_stored(&name)
 }
 
 // The name is a valid one.
 fn valid_stored_stream_name(name: [u16; STREAM_NAME_LIMIT]) -> bool
     ensures { λ r. ⌜ r ≡ validStreamName streamNameLimit (units name) ⌝ }
 {
-    let n = name_length(name);
+    let n = name_length(&name);
     valid_stream_name(&name[..n])
 }
 
@@ -73,7 +73,7 @@ fn good_stream(s: Stream, of: FileType) -> bool
 {
     let name = s.name;
     let t = s.stream_type;
-    well_stored(name)
+    well_stored(&name)
         & valid_stored_stream_name(name)
         & is_used(of)
         & (is_directory(t) == is_directory(of))
@@ -120,7 +120,7 @@ fn streams_differ(s: Stream, q: Stream) -> bool
     }
     let a = s.name;
     let b = q.name;
-    !same_names(a, b)
+    !same_names(&a, &b)
 }
 
 // Every two used streams.

@@ -8,3 +8,4 @@ pub mod Typed
 pub mod Parts
 pub mod InPlace
 pub mod Stands
+pub mod Zeros

@@ -14,3 +14,4 @@ pub mod Set
 pub mod Pigeonhole
 pub mod Keyed
 pub mod Back
+pub mod Copied

@@ -1,17 +1,21 @@
 -- Laws of stored names: their units by places.
-use Rattle.base.{specs.Base.{ℕ, zero, suc, _+_, _≤_, _<_, _≡_, Bool, true, false, List, [], _∷_, eqb, length, getD, drop, same}, proofs.Laws.{refl, sym, _∙_, arith, drop-of-length-le, eqb-true, eqb-false, drop-next, same-differs, same-tail}}
+use Rattle.base.{specs.Base.{ℕ, zero, suc, _+_, _≤_, _<_, _≡_, Bool, false, List, [], _∷_, isEmpty, eqb, length, getD, drop, same}, proofs.Laws.{refl, sym, _∙_, by-cases, drop-of-length-le, eqb-true, eqb-false, eq-eqb, ne-eqb, drop-next, empty-is, same-differs, same-tail}}
+use lib.Dec.{eqb·suc-zero}
 use native.Mathlib.Numerals.{add-one}
 use Rattle.units.{specs.Units.{folded, equalUnits}, proofs.Compare.{equal-tail, equal-differs}}
 use Rattle.stored_names.specs.StoredNames.{units}
 
--- from a zero, or from the end on, there are no units
+-- there are no units from a place on exactly where a zero stands there, or the end
+pub units-none : (n : List ℕ) (i : ℕ) → isEmpty (units (drop i n)) ≡ eqb (getD n i 0) 0
+unfolding isEmpty units
+units-none [] zero = refl
+units-none [] (suc i) = refl
+units-none (zero ∷ us) zero = refl
+units-none (suc u ∷ us) zero = sym (eqb·suc-zero u)
+units-none (u ∷ us) (suc i) = units-none us i
+
 pub units-end : (n : List ℕ) (i : ℕ) → getD n i 0 ≡ 0 → units (drop i n) ≡ []
-unfolding units
-units-end [] zero e = refl
-units-end [] (suc i) e = refl
-units-end (zero ∷ us) zero e = refl
-units-end (suc u ∷ us) zero e = absurd (omega arith)
-units-end (u ∷ us) (suc i) e = units-end us i e
+units-end n i e = empty-is (units (drop i n)) (units-none n i ∙ eq-eqb (getD n i 0) 0 e)
 
 units-suc : (n : List ℕ) (i : ℕ) → (getD n i 0 ≡ 0 → ⊥) → units (drop i n) ≡ getD n i 0 ∷ units (drop (suc i) n)
 unfolding units
@@ -24,30 +28,42 @@ units-suc (u ∷ us) (suc i) ne = units-suc us i ne
 pub units-next : (n : List ℕ) (i : ℕ) → (getD n i 0 ≡ 0 → ⊥) → units (drop i n) ≡ getD n i 0 ∷ units (drop (i + 1) n)
 units-next n i ne = rw (add-one i) (units-suc n i ne)
 
--- two names that differ at a place up to which both have units
-pub units-differ : (a b : List ℕ) (i : ℕ) → (getD a i 0 ≡ getD b i 0 → ⊥) → same (units (drop i a)) (units (drop i b)) ≡ false
-unfolding same
-units-differ a b i ne = go (eqb (getD a i 0) 0) (eqb (getD b i 0) 0) refl refl
-  where
-    go : (x y : Bool) → eqb (getD a i 0) 0 ≡ x → eqb (getD b i 0) 0 ≡ y → same (units (drop i a)) (units (drop i b)) ≡ false
-    go true true p q = absurd (ne (eqb-true (getD a i 0) 0 p ∙ sym (eqb-true (getD b i 0) 0 q)))
-    go true false p q = rw (units-end a i (eqb-true (getD a i 0) 0 p), units-next b i (eqb-false (getD b i 0) 0 q))
-    go false true p q = rw (units-next a i (eqb-false (getD a i 0) 0 p), units-end b i (eqb-true (getD b i 0) 0 q))
-    go false false p q =
-        rw (units-next a i (eqb-false (getD a i 0) 0 p), units-next b i (eqb-false (getD b i 0) 0 q))
-        (same-differs (getD a i 0) (getD b i 0) (units (drop (i + 1) a)) (units (drop (i + 1) b)) ne)
+-- two names from a place on, up to which both have units
 
--- two names that are equal at a place, and what follows
-pub units-same-next : (a b : List ℕ) (i : ℕ) → (getD a i 0 ≡ 0 → ⊥) → getD a i 0 ≡ getD b i 0 → same (units (drop i a)) (units (drop i b)) ≡ same (units (drop (i + 1) a)) (units (drop (i + 1) b))
-units-same-next a b i ne e =
-    rw (units-next a i ne, units-next b i (λ z. ne (e ∙ z)))
-    (same-tail (getD a i 0) (getD b i 0) (units (drop (i + 1) a)) (units (drop (i + 1) b)) e)
+nothing-same : (us : List ℕ) → same [] us ≡ isEmpty us
+unfolding same isEmpty
+nothing-same [] = refl
+nothing-same (u ∷ us) = refl
 
-pub units-both-end : (a b : List ℕ) (i : ℕ) → getD a i 0 ≡ 0 → getD b i 0 ≡ 0 → same (units (drop i a)) (units (drop i b)) ≡ true
-unfolding same
-units-both-end a b i p q = rw (units-end a i p, units-end b i q)
+module _ (a b : List ℕ) (i : ℕ) where
+  -- the first has ended: so must the second
+  pub units-ended : getD a i 0 ≡ 0 → same (units (drop i a)) (units (drop i b)) ≡ eqb (getD b i 0) 0
+  units-ended e = rw (units-end a i e) (nothing-same (units (drop i b)) ∙ units-none b i)
+
+  -- they are equal at the place, and what follows
+  pub units-same-next : (getD a i 0 ≡ 0 → ⊥) → getD a i 0 ≡ getD b i 0 → same (units (drop i a)) (units (drop i b)) ≡ same (units (drop (i + 1) a)) (units (drop (i + 1) b))
+  units-same-next ne e =
+      rw (units-next a i ne, units-next b i (λ z. ne (e ∙ z)))
+      (same-tail (getD a i 0) (getD b i 0) (units (drop (i + 1) a)) (units (drop (i + 1) b)) e)
+
+  -- they differ there
+  pub units-differ : (getD a i 0 ≡ getD b i 0 → ⊥) → same (units (drop i a)) (units (drop i b)) ≡ false
+  unfolding same
+  units-differ ne =
+      by-cases (eqb (getD a i 0) 0)
+      (λ p. let e = eqb-true (getD a i 0) 0 p in units-ended e ∙ ne-eqb (getD b i 0) 0 (λ z. ne (e ∙ sym z)))
+      (λ p.
+      by-cases (eqb (getD b i 0) 0) (λ q. rw (units-next a i (eqb-false (getD a i 0) 0 p), units-end b i (eqb-true (getD b i 0) 0 q)))
+      (λ q.
+      rw (units-next a i (eqb-false (getD a i 0) 0 p), units-next b i (eqb-false (getD b i 0) 0 q))
+      (same-differs (getD a i 0) (getD b i 0) (units (drop (i + 1) a)) (units (drop (i + 1) b)) ne)))
 
 -- a stored name against a part of a path, from a place on
+
+nothing-matches : (fold : Bool) (us : List ℕ) → equalUnits fold us [] ≡ isEmpty us
+unfolding equalUnits same isEmpty
+nothing-matches fold [] = refl
+nothing-matches fold (u ∷ us) = refl
 
 module _ (fold : Bool) (name part : List ℕ) (i : ℕ) where
   -- the name ends first
@@ -67,9 +83,4 @@ module _ (fold : Bool) (name part : List ℕ) (i : ℕ) where
 
   -- the part has ended: so must the name
   pub name-end : length part ≤ i → equalUnits fold (units (drop i name)) (drop i part) ≡ eqb (getD name i 0) 0
-  unfolding equalUnits same
-  name-end h = rw (drop-of-length-le part h) (go (eqb (getD name i 0) 0) refl)
-    where
-      go : (b : Bool) → eqb (getD name i 0) 0 ≡ b → equalUnits fold (units (drop i name)) [] ≡ b
-      go true e = rw (units-end name i (eqb-true (getD name i 0) 0 e))
-      go false e = rw (units-next name i (eqb-false (getD name i 0) 0 e))
+  name-end h = rw (drop-of-length-le part h) (nothing-matches fold (units (drop i name)) ∙ units-none name i)

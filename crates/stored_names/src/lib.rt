@@ -1,22 +1,22 @@
-// Names as they stand in a record, zeros after the last unit. A file's and a stream's have as many places.
-use records::sizes::FILE_NAME_LIMIT;
+// Names as they stand in a record, zeros after the last unit. A name is lent, whatever its places.
 use units::folded_unit;
 ghost use mathlib.Core.Path.{_≡_};
-ghost use lib.ListN.{getD};
-ghost use Rattle.lists.specs.Lists.{same};
+ghost use lib.Dec.{eqb};
+ghost use lib.ListN.{length, getD, drop, replicate};
+ghost use Rattle.lists.specs.Lists.{all, same};
 ghost use Rattle.units.specs.Units.{equalUnits};
-ghost use Rattle.stored_names.specs.StoredNames.{units};
+ghost use Rattle.stored_names.specs.StoredNames.{units, wellStored};
 
 // The unit at a place, zero past the last place.
-fn unit_at(name: [u16; FILE_NAME_LIMIT], at: usize) -> u16
-    ensures { λ r. ⌜ r ≡ getD name at 0 ⌝ }
+fn unit_at(name: &[u16], at: usize) -> u16
+    ensures { λ r. ⌜ r ≡ getD (now (name .entry)) at 0 ⌝ }
 {
-    if at < FILE_NAME_LIMIT { name[at] } else { 0 }
+    if at < name.len() { name[at] } else { 0 }
 }
 
 // Whether a stored name matches a part of a path. The first difference settles it.
-pub fn name_equals(name: [u16; FILE_NAME_LIMIT], part: &[u16], fold: bool) -> bool
-    ensures { λ r. ⌜ r ≡ equalUnits fold (units name) (now (part .entry)) ⌝ }
+pub fn name_equals(name: &[u16], part: &[u16], fold: bool) -> bool
+    ensures { λ r. ⌜ r ≡ equalUnits fold (units (now (name .entry))) (now (part .entry)) ⌝ }
 {
     let mut i = 0;
     while i < part.len() {
@@ -33,12 +33,12 @@ pub fn name_equals(name: [u16; FILE_NAME_LIMIT], part: &[u16], fold: bool) -> bo
 }
 
 // Whether two stored names have equal units. The first difference settles it.
-pub fn same_names(a: [u16; FILE_NAME_LIMIT], b: [u16; FILE_NAME_LIMIT]) -> bool
-    ensures { λ r. ⌜ r ≡ same (units a) (units b) ⌝ }
+pub fn same_names(a: &[u16], b: &[u16]) -> bool
+    ensures { λ r. ⌜ r ≡ same (units (now (a .entry))) (units (now (b .entry))) ⌝ }
 {
     let mut i = 0;
-    while i < FILE_NAME_LIMIT {
-        if a[i] != b[i] {
+    while i < a.len() {
+        if a[i] != unit_at(b, i) {
             return false;
         }
         if a[i] == 0 {
@@ -46,5 +46,47 @@ pub fn same_names(a: [u16; FILE_NAME_LIMIT], b: [u16; FILE_NAME_LIMIT]) -> bool
         }
         i += 1;
     }
+    unit_at(b, i) == 0
+}
+
+// How many units a stored name has.
+pub fn name_length(name: &[u16]) -> usize
+    ensures { λ r. ⌜ r ≡ length (units (now (name .entry))) ⌝ }
+{
+    let mut i = 0;
+    while i < name.len() {
+        if name[i] == 0 {
+            return i;
+        }
+        i += 1;
+    }
+    i
+}
+
+// Whether every place from one on is zero.
+fn zero_from(name: &[u16], from: usize) -> bool
+    ensures { λ r. ⌜ r ≡ all (λ u. eqb u 0) (drop from (now (name .entry))) ⌝ }
+{
+    let mut at = from;
+    while at < name.len() {
+        if name[at] != 0 {
+            return false;
+        }
+        at += 1;
+    }
     true
+}
+
+// Whether every place after a stored name's last unit is zero.
+pub fn well_stored(name: &[u16]) -> bool
+    ensures { λ r. ⌜ r ≡ wellStored (length (now (name .entry))) (now (name .entry)) ⌝ }
+{
+    zero_from(name, name_length(name))
+}
+
+// Whether a stored name is all zero.
+pub fn zero_name(name: &[u16]) -> bool
+    ensures { λ r. ⌜ r ≡ same (now (name .entry)) (replicate (length (now (name .entry))) 0) ⌝ }
+{
+    zero_from(name, 0)
 }

@@ -1,7 +1,7 @@
 -- `audit_opens::opens_consistent` meets its contract. The invariant: the pass over the rows from i on.
 use Rattle.base.{specs.Base.{_≡_, Bool, _&&_, inl, inr, allFrom, namespace, Handle}, proofs.Laws.{sym, _∙_, ap, ⊎-elim, arith, needs, not-true, not-false, ltb-true, ltb-false}}
 use Rattle.layout.{specs.Layout.decode, proofs.Lengths.{streams-count, opens-count}}
-use Rattle.open_table.specs.Rows.{rowAt}
+use Rattle.tables.specs.Tables.{rowAt}
 use Rattle.audit_opens.proofs.{CountsScan.foundTest, OpensScan.{openTest, Pass, row-found, pass-begins, pass-fails, pass-counts, pass-skips, rowsTest, rows-none, rows-fail, pass-ends}, opens_consistent.Statement.statement}
 use Rattle.audit_opens.proofs.opens_consistent.Tie as tie
 

@@ -1,6 +1,6 @@
 -- `audit_streams::is_unnamed` meets its contract: a name is empty exactly where its first place is zero.
 use Rattle.base.proofs.Laws.{sym, needs}
-use Rattle.audit_names.proofs.StoredUnits.{units-empty}
+use Rattle.stored_names.proofs.StoredUnits.{units-empty}
 use Rattle.audit_streams.proofs.is_unnamed.Statement.{statement}
 use Rattle.audit_streams.proofs.is_unnamed.Tie as tie
 

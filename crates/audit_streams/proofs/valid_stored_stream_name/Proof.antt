@@ -1,7 +1,7 @@
 -- `audit_streams::valid_stored_stream_name` meets its contract: the part before the first zero is the name's units.
 use Rattle.base.{specs.Base.{ℕ, take, streamNameLimit}, proofs.Laws.{sym, ap, _∙_, arith, needs}}
 use lib.Seq.{length-take-le}
-use Rattle.audit_names.proofs.StoredUnits.{units-taken, units-fit}
+use Rattle.stored_names.proofs.StoredUnits.{units-taken, units-fit}
 use Rattle.names.specs.Names.{validStreamName}
 use Rattle.audit_streams.proofs.valid_stored_stream_name.Statement.{statement}
 use Rattle.audit_streams.proofs.valid_stored_stream_name.Tie as tie

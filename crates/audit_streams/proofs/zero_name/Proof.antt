@@ -1,6 +1,6 @@
 -- `audit_streams::zero_name` meets its contract: a name is all zero exactly where it is empty and well stored.
 use Rattle.base.{proofs.Laws.{sym, _∙_, arith, ne-eqb, needs}, specs.Base.streamNameLimit}
-use Rattle.audit_names.proofs.StoredUnits.{zeros-stored, zeros-not}
+use Rattle.stored_names.proofs.StoredUnits.{zeros-stored, zeros-not}
 use Rattle.audit_streams.proofs.zero_name.Statement.{statement}
 use Rattle.audit_streams.proofs.zero_name.Tie as tie
 

@@ -3,17 +3,8 @@ use Rattle.base.proofs.Laws.{sym, arith, List·getD-eq-default, needs}
 use Rattle.stored_names.proofs.unit_at.Statement.{statement}
 use Rattle.stored_names.proofs.unit_at.Tie as tie
 
-mul-result : tie.Need-mul-result
-mul-result c = search needs
-
-array-read-result : tie.Need-array-read-result
-array-read-result c = search needs
-
-returns : tie.Need-returns
-returns c = search needs
-
 returns-2 : tie.Need-returns-2
-returns-2 c = sym (List·getD-eq-default (c .before .args .t1) 0 (omega arith))
+returns-2 c = sym (List·getD-eq-default (c .before .args .name .now) 0 (omega arith))
 
 pub unit-at-spec : {M : Type 1} → statement M
-unit-at-spec = tie.close (tie.spec mul-result array-read-result returns returns-2)
+unit-at-spec = tie.close (tie.spec (λ c. search needs) (λ c. search needs) (λ c. search needs) returns-2)

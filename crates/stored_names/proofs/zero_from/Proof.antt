@@ -1,0 +1,42 @@
+-- `stored_names::zero_from` meets its contract. The loop's invariant: the answer is whether all places left are zero.
+use Rattle.base.{specs.Base.{_-_, _≡_, length, drop, all}, proofs.Laws.{refl, sym, _∙_, arith, needs, eq-eqb, ne-eqb, all-fails, all-next, all-end}}
+use Rattle.stored_names.proofs.{StoredUnits.isZero, zero_from.Statement.statement}
+use Rattle.stored_names.proofs.zero_from.Tie as tie
+
+abbrev Inv-loop : tie.InvT-loop
+Inv-loop name from at₀ at = all isZero (drop from name) ≡ all isZero (drop at name)
+
+abbrev μ-loop : tie.MeasureT-loop
+μ-loop name from at₀ at = length name - at
+
+returns : tie.Need-returns Inv-loop μ-loop
+returns c =
+    let l = c .before .before .before in
+    let n = l .before .args .name .now in
+    sym (l .loop .inv ∙ all-fails isZero n (l .loop .at) 0 (omega arith) (ne-eqb _ 0 (c .if1 .taken)))
+
+loop-again : tie.Need-loop-again Inv-loop μ-loop
+loop-again c =
+    let l = c .before .before .before in
+    let n = l .before .args .name .now in
+    l .loop .inv ∙ all-next isZero n (l .loop .at) 0 (omega arith) (eq-eqb _ 0 (c .if1 .left))
+
+returns-2 : tie.Need-returns-2 Inv-loop μ-loop
+returns-2 c =
+    let l = c .before in
+    sym (l .loop .inv ∙ all-end isZero (l .before .args .name .now) (l .loop .at) (c .loop-test .left))
+
+pub zero-from-spec : {M : Type 1} → statement M
+zero-from-spec =
+    tie.close
+    (tie.spec
+    Inv-loop
+    μ-loop
+    (λ c. refl)
+    (λ c. search needs)
+    (λ c. search needs)
+    returns
+    (λ c. search needs)
+    (λ c. search needs)
+    loop-again
+    returns-2)
