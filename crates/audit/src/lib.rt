@@ -3,8 +3,8 @@
 use audit_conflicts::no_conflicts;
 use audit_counts::counts_true;
 use audit_files::files_consistent;
+use audit_links::links_consistent;
 use audit_opens::opens_consistent;
-use audit_parents::links_consistent;
 use audit_streams::streams_consistent;
 use records::OpenTable;
 use records::Volume;

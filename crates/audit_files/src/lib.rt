@@ -1,56 +1,29 @@
-// The audit of the files table.
+// The audit of the files table: each slot by itself, and the root.
+use masks::valid_masks;
+use masks::zero_masks;
 use records::File;
-use records::Volume;
-use records::constants::ALL_ACCESS;
+use records::FileNo;
 use records::constants::DIRECTORY;
 use records::constants::FILE_ATTRIBUTES;
-use records::sizes::ACCOUNTS;
 use records::sizes::FILE_SLOTS;
 use records::slots::file_used;
 use records::slots::is_directory;
+use records_files::read_file;
+use records_files::read_file_type;
 ghost use mathlib.Core.Path.{_≡_};
-ghost use lib.ListN.{replicate};
-ghost use Rattle.lists.specs.Lists.{same};
-ghost use Rattle.records.specs.Sizes.{accounts};
+ghost use lib.ListN.{length};
 ghost use Rattle.records.specs.Slots.{fileUsed};
-ghost use Rattle.consistency.specs.Relations.{validMasks};
+ghost use Rattle.layout.specs.Layout.{tablesSize, decode};
 ghost use Rattle.consistency.specs.Slots.{slotTest};
 ghost use Rattle.consistency.specs.Good.{goodFile, isZeroFile};
 ghost use Rattle.consistency.specs.Test.{filesTest};
-
-// Whether each mask is within all access.
-pub fn valid_masks(masks: [u32; ACCOUNTS]) -> bool
-    ensures { λ r. ⌜ r ≡ validMasks masks ⌝ }
-{
-    let mut account: usize = 0;
-    while account < ACCOUNTS {
-        if !bits::within(masks[account], ALL_ACCESS) {
-            return false;
-        }
-        account += 1;
-    }
-    true
-}
-
-fn zero_masks(masks: [u32; ACCOUNTS]) -> bool
-    ensures { λ r. ⌜ r ≡ same masks (replicate accounts 0) ⌝ }
-{
-    let mut i: usize = 0;
-    while i < ACCOUNTS {
-        if masks[i] != 0 {
-            return false;
-        }
-        i += 1;
-    }
-    true
-}
 
 // What a free slot has beside its kind is zero.
 fn is_zero_file(f: File) -> bool
     ensures { λ r. ⌜ r ≡ isZeroFile f ⌝ }
 {
     let masks = f.masks;
-    f.attributes == 0 && zero_masks(masks)
+    f.attributes == 0 && zero_masks(&masks)
 }
 
 // A used slot has attributes that a file may have, the directory bit exactly on a directory, and valid masks.
@@ -65,7 +38,7 @@ fn good_file(f: File) -> bool
         return false;
     }
     let masks = f.masks;
-    valid_masks(masks)
+    valid_masks(&masks)
 }
 
 fn slot_consistent(f: File) -> bool
@@ -79,17 +52,17 @@ fn slot_consistent(f: File) -> bool
 }
 
 // The root is a directory, and each slot passes.
-pub fn files_consistent(v: Volume) -> bool
-    ensures { λ r. ⌜ r ≡ filesTest (v .files) ⌝ }
+pub fn files_consistent(b: &[u8]) -> bool
+    requires { ⌜ length (now b) ≡ tablesSize ⌝ }
+    ensures { λ r. ⌜ r ≡ filesTest (decode (now (b .entry)) .volume .files) ⌝ }
 {
-    let root = v.files[0];
-    let t = root.file_type;
-    if !is_directory(t) {
+    let root = read_file_type(b, FileNo(0));
+    if !is_directory(root) {
         return false;
     }
     let mut i: usize = 0;
     while i < FILE_SLOTS {
-        let f = v.files[i];
+        let f = read_file(b, FileNo(i as u16));
         if !slot_consistent(f) {
             return false;
         }

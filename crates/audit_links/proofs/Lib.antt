@@ -1,1 +1,4 @@
-mod LinksScan
+mod Links
+mod Linked
+mod Noted
+mod Pass

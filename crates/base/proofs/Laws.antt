@@ -3,7 +3,7 @@ pub use mathlib.Core.Path.{refl, sym, _∙_, ap, ap₂, subst, subst₂}
 pub use mathlib.Core.Logic.{⊎-elim}
 pub use mathlib.Core.Bool.{true≢false, false≢true}
 pub use mathlib.Core.Option.{Option·some-injective}
-pub use lib.ListN.{length-take, length-drop, drop-of-length-le, length-set, getD-replicate, length-map, List·getD-eq-default, List·getD-map}
+pub use lib.ListN.{length-take, length-drop, drop-of-length-le, length-set, length-replicate, getD-replicate, length-map, List·getD-eq-default, List·getD-map}
 pub use lib.Seq.{take-all, getD-set-same}
 pub use borrow.Author.Tests.{eqb-true, eq-eqb, ne-eqb, not-false, not-true, ltb-false, ltb-true, eqb-false, le-leb, lt-leb}
 pub use native.Mathlib.Omega.{arith}
@@ -17,9 +17,10 @@ pub use Rattle.lists.proofs.Any.{any-at, any-of, any-fails, none-of, any-here, 
 pub use Rattle.lists.proofs.Count.{count-yes, count-no, count-add, count-bound, count-some, any-count, count-none, count-fewer, count-short}
 pub use Rattle.lists.proofs.Keep.{keep-yes, keep-no, kept-here, kept-past, all-kept-fails, all-kept-next, all-kept-past, kept-end, all-kept-end, all-keep, any-keep, count-keep, none-kept-at, none-kept-of, length-keep, keep-none, keep-others, keep-append, keep-map}
 pub use Rattle.lists.proofs.Pairs.{pairs-at, pairs-keep-at, pairs-keep-of, pairs-kept, pairs-kept-past, pairs-kept-fails, pairs-kept-end, pairs-map}
-pub use Rattle.lists.proofs.First.{Found, after-found, first-found, first-none, first-some, answerFrom, answer-here, answer-next, answer-none, first-map, find-here, find-next, find-found, find-keep, apart, perm-apart, perm-find}
+pub use Rattle.lists.proofs.First.{Found, after-found, first-found, first-none, first-some, found-iff, none-iff, Searching, searching-begins, searching-finds, searching-turns, searching-ends, answerFrom, answer-here, answer-next, answer-none, after-map, first-map, find-here, find-next, find-found, find-keep, apart, perm-apart, perm-find}
 pub use Rattle.lists.proofs.Permutations.{perm-refl, perm-eq, perm-sym, perm-length, perm-keep, perm-count, perm-any, perm-pairs, perm-set, keep-set-in, keep-set-gone}
 pub use Rattle.lists.proofs.Set.{FreeSlot, SetAt, set-cases, set-each, set-pairs, count-gained, one-before, one-added, free-stays, map-set}
+pub use Rattle.lists.proofs.Copied.{Copied, copied-none, copied-next, copied-all}
 pub use Rattle.lists.proofs.Pigeonhole.{pigeonhole, least}
 pub use Rattle.lists.proofs.Keyed.{Noted, keyed, keyed-own, back-skip, back-set}
 pub use Rattle.lists.proofs.Counted.{Counted, count-begins, count-room, count-ends, count-skips, count-adds}

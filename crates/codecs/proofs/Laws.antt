@@ -1,7 +1,7 @@
 -- Each way to put forms together keeps their laws.
 use Prim.Native.Nat.{ℕ, zero, suc, _*_, _<_, _≤_, _^_}
 use borrow.Author.Tests.{ltb-true, lt-ltb}
-use lib.{ListN.{length, getD, take, drop, length-append, length-drop, take-append-drop}, Seq.{take-at, drop-at, length-take-le}}
+use lib.{ListN.{length, getD, set, take, drop, length-append, length-set, length-drop, take-append-drop}, Seq.{take-at, drop-at, length-take-le}}
 use mathlib.Core.{Path.{_≡_, refl, sym, _∙_, ap, ap₂, subst}, Bool.{true, and-eq-true-iff}, List.{List, [], _∷_, _++_}}
 use native.Mathlib.{Nat.suc-mul, Omega.arith}
 use Rattle.little_endian.{specs.LittleEndian.{fromBytes, toBytes, Bytes}, proofs.Numbers.{from-to, to-from, from-lt, toBytes-length}}
@@ -73,6 +73,17 @@ pub each-from : {A : Type 0} (F : A → Type 0) (z : A) (xs : List A) → ((i : 
 unfolding Each
 each-from F z [] h = tt
 each-from F z (x ∷ xs) h = (h 0 (omega arith), each-from F z xs (λ i l. h (suc i) (omega arith)))
+
+-- a row that fits does so with a value put that fits
+module _ {A : Type 0} (F : A → Type 0) (y : A) (h : F y) where
+  each-set : (xs : List A) (k : ℕ) → Each F xs → Each F (set xs k y)
+  unfolding Each
+  each-set [] k r = tt
+  each-set (x ∷ xs) zero r = (h, r .1)
+  each-set (x ∷ xs) (suc k) r = (r .0, each-set xs k (r .1))
+
+  pub set-fits : {n : ℕ} {xs : List A} (k : ℕ) → RowFits n F xs → RowFits n F (set xs k y)
+  set-fits {n} {xs} k r = record { count = length-set xs k y ∙ r .count; each = each-set xs k (r .each) }
 
 -- a row has as many values as it is read for
 pub row-count : {A : Type 0} (c : Codec A) (n : ℕ) (bs : List ℕ) → length (decodeRow c n bs) ≡ n

@@ -4,3 +4,4 @@ pub mod Laws
 pub mod Fields
 pub mod Rows
 pub mod Standing
+pub mod Zeros

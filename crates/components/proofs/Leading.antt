@@ -4,20 +4,22 @@ use lib.Seq.{take-nil, take-take, drop-drop}
 use native.Mathlib.Nat.{add-zero, sub-zero, zero-sub, suc-sub-suc}
 use Rattle.components.specs.Positions.{leading, isSign}
 
--- from a place on, as a loop finds it
+-- a loop at place i that seeks, from `at` on, the first element that fails: what it seeks does not lie before i
+pub record Seeking (p : ℕ → Bool) (us : List ℕ) (at i : ℕ) : Type 0 where
+  pub left : at + leading p (drop at us) ≡ i + leading p (drop i us)
 
-module _ (p : ℕ → Bool) (us : List ℕ) (i : ℕ) where
-  pub from-next : (d : ℕ) → i < length us → p (getD us i d) ≡ true → i + leading p (drop i us) ≡ i + 1 + leading p (drop (i + 1) us)
+module _ {p : ℕ → Bool} {us : List ℕ} {at i : ℕ} (seeking : Seeking p us at i) where
+  pub seek-next : i < length us → p (getD us i 0) ≡ true → Seeking p us at (i + 1)
   unfolding leading
-  from-next d h e = rw (drop-next us i d h, e) (omega arith)
+  seek-next h e = record { left = seeking .left ∙ rw (drop-next us i 0 h, e) (omega arith) }
 
-  pub from-stops : (d : ℕ) → i < length us → p (getD us i d) ≡ false → i + leading p (drop i us) ≡ i
+  pub seek-stops : i < length us → p (getD us i 0) ≡ false → i ≡ at + leading p (drop at us)
   unfolding leading
-  from-stops d h e = rw (drop-next us i d h, e) (add-zero i)
+  seek-stops h e = sym (seeking .left ∙ rw (drop-next us i 0 h, e) (add-zero i))
 
-  pub from-end : length us ≤ i → i + leading p (drop i us) ≡ i
+  pub seek-end : length us ≤ i → i ≡ at + leading p (drop at us)
   unfolding leading
-  from-end h = rw (drop-of-length-le us h) (add-zero i)
+  seek-end h = sym (seeking .left ∙ rw (drop-of-length-le us h) (add-zero i))
 
 module _ (p : ℕ → Bool) where
   pub leading-le : (us : List ℕ) → leading p us ≤ length us

@@ -1,11 +1,25 @@
 -- Laws of the places that the code finds in a path: the next component, the components before it, and the first sign in a
 -- part.
 use Rattle.base.{specs.Base.{ℕ, zero, suc, _+_, _-_, _≤_, _<_, _≡_, false, List, [], _∷_, _++_, length, take, drop, replicate, slice, isEmpty}, proofs.Laws.{refl, sym, ap, _∙_, arith, length-drop, take-all}}
-use lib.Seq.{drop-drop, take-add}
+use lib.Seq.{drop-drop, take-add, take-take, length-take-le}
 use native.Mathlib.Nat.{zero-add, add-zero}
 use Rattle.units.specs.Units.{backslash}
 use Rattle.components.proofs.{Leading.{leading-le, leading-rest, leading-signs, slice-start, slice-take, slice-drop}, Splitting.{split-one, split-more, not-empty, components-skip, components-first, components-none, components-single, components-trail, signs-alone, Open, open-signs, open-trail}}
-use Rattle.components.specs.{Components.{split, components}, Positions.{leading, isSign, noSign, placeOf, placeAfter, partOf, nextComponent}}
+use Rattle.components.specs.{Components.{split, components}, Positions.{leading, isSign, noSign, placeOf, placeAfter, partOf, Within, nextComponent}, declared.Part.Part}
+
+-- a part that stands in the units before a place
+pub part-before : (path : List ℕ) (end : ℕ) (p : Part) → p .end ≤ end → partOf (take end path) p ≡ partOf path p
+unfolding partOf
+part-before path end p h = ap (drop (p .start)) (take-take (p .end) end path h)
+
+-- from a place of the units up to the next sign
+pub place-within : (sign : ℕ) (us : List ℕ) (at : ℕ) → at ≤ length us → Within us (record { start = at; end = placeOf sign us at })
+unfolding placeOf
+place-within sign us at h =
+    record {
+      ordered = omega arith;
+      inside = omega (arith, leading-le (noSign sign) (drop at us), length-drop at us);
+    }
 
 module _ (path : List ℕ) (at : ℕ) where
   abbrev pub nextStart : ℕ
@@ -23,6 +37,9 @@ module _ (path : List ℕ) (at : ℕ) where
   next-within ne =
       let s = at + leading (isSign backslash) (drop at path) in
       omega (arith, leading-le (noSign backslash) (drop s path), length-drop s path)
+
+  pub next-part : (nextStart ≡ nextEnd → ⊥) → Within path (nextComponent path at)
+  next-part ne = record { ordered = next-order .1; inside = next-within ne }
 
   skipped : components (drop at path) ≡ components (drop nextStart path)
   unfolding nextComponent placeAfter
@@ -100,41 +117,65 @@ module _ (path : List ℕ) (s e : ℕ) (ends : e ≡ placeOf backslash path s) w
       let g = gap more in
       rw (cut, g .1) (components-trail (take e path) (g .0)) ∙ last-added some opened
 
--- a part of a path, split where its first sign was found: from s up to e, where the code searched the units before e and
--- found the sign, or the end, at k
+-- a part of a path that was searched for a sign: the units before its end, and the place found in them, or their end
 
-module _ (sign : ℕ) (path : List ℕ) (s e k : ℕ) {units : List ℕ} (before : units ≡ take e path) (found : k ≡ placeOf sign units s) where
+pub record Searched (sign : ℕ) (path : List ℕ) (part : Part) (units : List ℕ) (k : ℕ) : Type 0 where
+  pub before : units ≡ take (part .end) path
+  pub found : k ≡ placeOf sign units (part .start)
+
+-- the part up to the place, and the part after it
+abbrev pub upTo : Part → ℕ → Part
+upTo part k = record { start = part .start; end = k }
+
+abbrev pub past : Part → ℕ → Part
+past part k = record { start = k + 1; end = part .end }
+
+module _ {sign : ℕ} {path : List ℕ} {part : Part} {units : List ℕ} {k : ℕ} (searched : Searched sign path part units k) where
   count : ℕ
-  count = leading (noSign sign) (slice s e path)
+  count = leading (noSign sign) (partOf path part)
 
-  place : k ≡ s + count
-  unfolding count placeOf
-  place = found ∙ ap (λ (l : List ℕ). s + leading (noSign sign) (drop s l)) before
+  place : k ≡ part .start + count
+  unfolding count placeOf partOf
+  place = searched .found ∙ ap (λ (l : List ℕ). part .start + leading (noSign sign) (drop (part .start) l)) (searched .before)
 
-  size : length (slice s e path) ≡ length units - s
-  size = length-drop s (take e path) ∙ ap (λ (l : List ℕ). length l - s) (sym before)
+  size : length (partOf path part) ≡ length units - part .start
+  unfolding partOf
+  size = length-drop (part .start) (take (part .end) path) ∙ ap (λ (l : List ℕ). length l - part .start) (sym (searched .before))
 
-  first-part : take count (slice s e path) ≡ slice s k path
-  unfolding count
+  first-part : take count (partOf path part) ≡ partOf path (upTo part k)
+  unfolding count partOf
   first-part =
-      slice-take s e count path (leading-le (noSign sign) (slice s e path))
-      ∙ ap (λ (n : ℕ). slice s n path) (sym place)
+      slice-take (part .start) (part .end) count path (leading-le (noSign sign) (partOf path part))
+      ∙ ap (λ (n : ℕ). slice (part .start) n path) (sym place)
 
-  pub split-last : length units ≤ k → split sign (slice s e path) ≡ slice s k path ∷ []
+  pub split-last : length units ≤ k → split sign (partOf path part) ≡ partOf path (upTo part k) ∷ []
   unfolding count
   split-last h =
-      let whole : length (slice s e path) ≤ count = omega (arith, place, size) in
-      split-one sign (slice s e path) whole
-      ∙ ap (λ (l : List ℕ). l ∷ []) (sym (take-all count (slice s e path) whole) ∙ first-part)
+      let whole : length (partOf path part) ≤ count = omega (arith, place, size) in
+      split-one sign (partOf path part) whole
+      ∙ ap (λ (l : List ℕ). l ∷ []) (sym (take-all count (partOf path part) whole) ∙ first-part)
 
-  pub split-found : k < length units → split sign (slice s e path) ≡ slice s k path ∷ split sign (slice (k + 1) e path)
-  unfolding count
+  pub split-found : k < length units → split sign (partOf path part) ≡ partOf path (upTo part k) ∷ split sign (partOf path (past part k))
+  unfolding count partOf
   split-found h =
-      let rest : s + suc count ≡ k + 1 = omega (arith, place) in
-      split-more sign (slice s e path) (omega (arith, place, size))
-      ∙ ap (λ (l : List ℕ). l ∷ split sign (drop (suc count) (slice s e path))) first-part
-      ∙ ap (λ (l : List ℕ). slice s k path ∷ split sign l) (slice-drop s e (suc count) path ∙ ap (λ (n : ℕ). slice n e path) rest)
+      let rest : part .start + suc count ≡ k + 1 = omega (arith, place) in
+      split-more sign (partOf path part) (omega (arith, place, size))
+      ∙ ap (λ (l : List ℕ). l ∷ split sign (drop (suc count) (partOf path part))) first-part
+      ∙ ap (λ (l : List ℕ). partOf path (upTo part k) ∷ split sign l) (slice-drop (part .start) (part .end) (suc count) path ∙ ap (λ (n : ℕ). slice n (part .end) path) rest)
 
-  pub part-some : (s ≡ k → ⊥) → isEmpty (slice s k path) ≡ false
+  pub part-some : (part .start ≡ k → ⊥) → isEmpty (partOf path (upTo part k)) ≡ false
   unfolding count
-  part-some ne = rw (← first-part) (not-empty (noSign sign) (slice s e path) (λ z. ne (omega (arith, place))))
+  part-some ne = rw (← first-part) (not-empty (noSign sign) (partOf path part) (λ z. ne (omega (arith, place))))
+
+  -- both are parts of the path where the whole is
+  module _ (within : Within path part) where
+    sized : length units ≡ part .end
+    sized = ap length (searched .before) ∙ length-take-le (part .end) path (within .inside)
+
+    pub first-within : Within path (upTo part k)
+    first-within =
+        let up = place-within sign units (part .start) (omega (arith, sized)) in
+        record { ordered = omega (arith, searched .found); inside = omega (arith, sized, searched .found) }
+
+    pub rest-within : k < length units → Within path (past part k)
+    rest-within h = record { ordered = omega (arith, sized); inside = within .inside }

@@ -1,5 +1,5 @@
 -- Step 4: positions in a path, as the code finds them.
-use Rattle.base.specs.Base.{ℕ, suc, _+_, Bool, not, cond, List, [], _∷_, eqb, take, drop, slice}
+use Rattle.base.specs.Base.{ℕ, suc, _+_, _≤_, Bool, not, cond, List, [], _∷_, eqb, length, take, drop, slice}
 use Rattle.units.specs.Units.{backslash}
 use Rattle.components.specs.{Components.components, declared.Part.Part}
 
@@ -24,6 +24,11 @@ placeAfter sign us at = at + leading (isSign sign) (drop at us)
 -- the units of a part
 unfoldable pub partOf : List ℕ → Part → List ℕ
 partOf us p = slice (p .start) (p .end) us
+
+-- a part whose places are places of the units
+pub record Within (us : List ℕ) (p : Part) : Type 0 where
+  pub ordered : p .start ≤ p .end
+  pub inside : p .end ≤ length us
 
 -- the first component from `at` on; an empty part where there is none
 unfoldable pub nextComponent : List ℕ → ℕ → Part

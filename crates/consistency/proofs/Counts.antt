@@ -1,8 +1,8 @@
 -- Share counts: the test answers true exactly when every slot's counts are those of the live opens.
 use Rattle.base.{specs.Base.{ℕ, _≡_, Bool, true, List, _↔_, zeroStream, StreamNo, ShareCounts, Stream, Open}, proofs.Laws.{and-iff, eqb-iff, numbered-at, numbered-of}}
 use Rattle.sharing.specs.Sharing.{countsOf}
-use Rattle.tables.specs.Tables.{streamAt}
-use Rattle.consistency.specs.{Relations.live, Test.{sameCounts, countsTest}, Consistent.CountsTrue}
+use Rattle.tables.specs.Tables.{streamAt, live}
+use Rattle.consistency.specs.{Test.{sameCounts, countsTest}, Consistent.CountsTrue}
 
 -- two records of counts pass the test exactly when they are equal
 pub same-counts : (c d : ShareCounts) → sameCounts c d ≡ true → c ≡ d

@@ -3,9 +3,9 @@
 use Rattle.base.{specs.Base.{ℕ, _≤_, _<_, _≡_, true, false, List, map, length, any, zeroStream, zeroOpen, fileUsed, streamUsed, openUsed, BareStream, bare, bareUsed, bareAt, namespace, FileNo, StreamNo, File, Stream, Open, OpenTable, Volume, zeroBare, streamSlots, getD, isUsed}, proofs.Laws.{_∙_, ap, arith, List·getD-map, List·getD-eq-default, not-both, fails-iff, none-kept-of}}
 use native.Mathlib.Decide.{decLt}
 use Rattle.sharing.{specs.Sharing.onStream, proofs.Counts.counts-none}
-use Rattle.tables.specs.Tables.{fileAt, streamAt}
+use Rattle.tables.specs.Tables.{fileAt, streamAt, live}
 use Rattle.consistency.proofs.{Numbered.stream-iff, Slots.slots-map}
-use Rattle.consistency.specs.{Relations.live, Good.GoodFile, Consistent.{FilesConsistent, GoodStreamOf, StreamsConsistent, openAt, OpensConsistent, Consistent}, Slots.Slots}
+use Rattle.consistency.specs.{Good.GoodFile, Consistent.{FilesConsistent, GoodStreamOf, StreamsConsistent, openAt, OpensConsistent, Consistent}, Slots.Slots}
 
 -- used slots by their numbers
 pub file-good : {fs : List File} → FilesConsistent fs → (f : FileNo) → fileUsed (fileAt fs f) ≡ true → GoodFile (fileAt fs f)

@@ -1,7 +1,8 @@
 -- The table of opens, and that no two conflict: the tests answer true exactly when the statements hold.
 use Rattle.base.{specs.Base.{ℕ, _≡_, true, List, _↔_, eqb, keep, pairs, root, zeroOpen, openUsed, BareStream, bareAt, Open}, proofs.Laws.{refl, ap, eqb-true, eqb-false, ne-eqb, not-true, not-false, and-iff, not-iff, not-is, eqb-iff, leb-iff, fails-iff, exclude-iff}}
+use Rattle.tables.specs.Tables.{live}
 use Rattle.consistency.proofs.{Slots.{Decides, slots-iff, two-iff}, Numbered.{same-file, same-stream, same-handle, stream-iff, handle-iff}}
-use Rattle.consistency.specs.{Relations.live, Slots.EveryTwo, Good.{goodOpen, isZeroOpen, handlesDiffer, opensAgree, HandlesDiffer, OpensAgree}, Consistent.{GoodOpenOf, OpensConsistent, NoConflicts}, Test.{goodOpenOf, opensTest, conflictsTest}}
+use Rattle.consistency.specs.{Slots.EveryTwo, Good.{goodOpen, isZeroOpen, handlesDiffer, opensAgree, HandlesDiffer, OpensAgree}, Consistent.{GoodOpenOf, OpensConsistent, NoConflicts}, Test.{goodOpenOf, opensTest, conflictsTest}}
 
 pub open-decides : (ss : List BareStream) (next : ℕ) → Decides openUsed (goodOpenOf ss next) isZeroOpen zeroOpen (GoodOpenOf ss next)
 unfolding openUsed goodOpen isZeroOpen

@@ -3,8 +3,8 @@
 -- of two.
 use Rattle.base.specs.Base.{ℕ, _≤_, _<_, _≡_, true, List, _≢_, length, getD, count, fileSlots, linkSlots, streamSlots, openSlots, root, zeroFile, zeroLink, zeroOpen, isDirectory, fileUsed, linkUsed, openUsed, BareStream, zeroBare, bareUsed, bareAt, namespace, FileNo, StreamNo, File, Link, Stream, Open, OpenTable, Volume}
 use Rattle.sharing.specs.Sharing.{countsOf}
-use Rattle.tables.specs.Tables.{fileAt, streamAt}
-use Rattle.consistency.specs.{Relations.{typeAt, linkTo, streamOf, unnamedOf, live, climb}, Slots.{Slots, EveryTwo}, Good.{GoodFile, GoodLink, LinkNamesDiffer, GoodStream, StreamNamesDiffer, GoodOpen, HandlesDiffer, OpensAgree}}
+use Rattle.tables.specs.Tables.{fileAt, streamAt, live}
+use Rattle.consistency.specs.{Relations.{typeAt, linkTo, streamOf, unnamedOf, climb}, Slots.{Slots, EveryTwo}, Good.{GoodFile, GoodLink, LinkNamesDiffer, GoodStream, StreamNamesDiffer, GoodOpen, HandlesDiffer, OpensAgree}}
 
 pub record FilesConsistent (fs : List File) : Type 0 where
   pub slots : Slots fileUsed zeroFile GoodFile fileSlots fs

@@ -1,5 +1,5 @@
--- How the tables refer to each other: links to files, streams to files, live opens, parents.
-use Rattle.base.specs.Base.{ℕ, zero, suc, Bool, true, false, _&&_, List, [], _∷_, eqb, length, within, all, keep, isEmpty, accounts, allAccess, linkUsed, openUsed, BareStream, bareUsed, FileType, FileNo, File, Link, Open}
+-- How the tables refer to each other: links to files, streams to files, parents.
+use Rattle.base.specs.Base.{ℕ, zero, suc, Bool, true, false, _&&_, List, [], _∷_, eqb, length, within, all, isEmpty, accounts, allAccess, linkUsed, BareStream, bareUsed, FileType, FileNo, File, Link}
 use Rattle.stored_names.specs.StoredNames.{units}
 use Rattle.tables.specs.Tables.{fileAt}
 
@@ -21,10 +21,6 @@ streamOf f s = bareUsed s && eqb (s .file .0) (f .0)
 
 unfoldable pub unnamedOf : FileNo → BareStream → Bool
 unnamedOf f s = streamOf f s && isEmpty (units (s .name))
-
--- the opens of the table that are live
-unfoldable pub live : List Open → List Open
-live os = keep openUsed os
 
 -- the parent of a file: that of its lowest link; of a file without a link, itself
 unfoldable pub parentOf : List Link → FileNo → FileNo

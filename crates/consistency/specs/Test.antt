@@ -1,7 +1,8 @@
 -- Consistency as a test that computes. proofs/ shows that it answers true exactly when the tables are Consistent.
 use Rattle.base.specs.Base.{ℕ, Bool, cond, not, _&&_, _||_, List, eqb, leb, allFrom, count, keep, pairs, fileSlots, linkSlots, streamSlots, openSlots, root, isDirectory, fileUsed, linkUsed, openUsed, BareStream, bareUsed, bareAt, namespace, FileNo, File, Link, ShareCounts, Stream, Open, OpenTable, Volume}
 use Rattle.sharing.specs.Sharing.{countsOf}
-use Rattle.consistency.specs.{Relations.{typeAt, linkTo, streamOf, unnamedOf, live, reaches}, Slots.slotsTest, Good.{goodFile, isZeroFile, goodLink, isZeroLink, linkNamesDiffer, goodStream, isZeroStream, streamNamesDiffer, goodOpen, isZeroOpen, handlesDiffer, opensAgree}}
+use Rattle.tables.specs.Tables.{live}
+use Rattle.consistency.specs.{Relations.{typeAt, linkTo, streamOf, unnamedOf, reaches}, Slots.slotsTest, Good.{goodFile, isZeroFile, goodLink, isZeroLink, linkNamesDiffer, goodStream, isZeroStream, streamNamesDiffer, goodOpen, isZeroOpen, handlesDiffer, opensAgree}}
 
 -- files
 

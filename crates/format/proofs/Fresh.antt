@@ -1,10 +1,10 @@
 -- Format gives consistent tables.
 use Rattle.base.{specs.Base.{ℕ, _≡_, Bool, true, _&&_, List, within, has, all, allFrom, count, keep, pairs, isEmpty, same, padded, isUsed, isDirectory, fileUsed, linkUsed, openUsed, bare, bareUsed, bareAt, namespace}, proofs.Laws.{refl, ap, and-both}}
-use Rattle.consistency.{specs.{Relations.{validMasks, linkTo, streamOf, unnamedOf, live, parentOf, reaches}, Slots.slotsTest, Good.{goodFile, isZeroFile, goodLink, isZeroLink, goodStream, isZeroStream, goodOpen, isZeroOpen, linkNamesDiffer, streamNamesDiffer, handlesDiffer, opensAgree}, Test.{filesTest, linksOfFile, linksTest, streamsOfFile, streamsTest, opensTest, sameCounts, countsTest, conflictsTest, consistent}, Consistent.Consistent}, proofs.Equivalence.consistent-iff}
+use Rattle.consistency.{specs.{Relations.{validMasks, linkTo, streamOf, unnamedOf, parentOf, reaches}, Slots.slotsTest, Good.{goodFile, isZeroFile, goodLink, isZeroLink, goodStream, isZeroStream, goodOpen, isZeroOpen, linkNamesDiffer, streamNamesDiffer, handlesDiffer, opensAgree}, Test.{filesTest, linksOfFile, linksTest, streamsOfFile, streamsTest, opensTest, sameCounts, countsTest, conflictsTest, consistent}, Consistent.Consistent}, proofs.Equivalence.consistent-iff}
 use Rattle.names.specs.Names.{validUnit, validFileName, validStreamName}
 use Rattle.sharing.specs.Sharing.{onStream, countsOf, countsOfAll}
 use Rattle.stored_names.specs.StoredNames.{units, wellStored}
-use Rattle.tables.specs.Tables.{fileAt}
+use Rattle.tables.specs.Tables.{fileAt, live}
 use Rattle.format.specs.Format.{rootFile, freshVolume, freshOpens}
 
 -- what the tests compute with

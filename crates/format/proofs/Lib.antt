@@ -1,2 +1,4 @@
 pub mod Fresh
-pub mod RightLengths
+pub mod Written
+pub mod Bytes
+pub mod Decoded

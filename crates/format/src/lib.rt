@@ -1,34 +1,59 @@
-// Format: fresh tables with the root alone.
-use audit_files::valid_masks;
+// Format: the lent bytes become those of fresh tables, with the root alone.
+use layout::TABLES_SIZE;
+use masks::valid_masks;
 use records::Answer;
 use records::File;
 use records::FileNo;
 use records::FileType;
 use records::Handle;
-use records::OpenTable;
 use records::Outcome;
 use records::Status;
 use records::Stream;
-use records::Volume;
+use records::StreamNo;
 use records::constants::DIRECTORY;
 use records::sizes::ACCOUNTS;
-use records::sizes::FILE_SLOTS;
-use records::sizes::LINK_SLOTS;
-use records::sizes::OPEN_SLOTS;
 use records::sizes::STREAM_NAME_LIMIT;
-use records::sizes::STREAM_SLOTS;
 use records::slots::ZERO_COUNTS;
-use records::slots::ZERO_FILE;
-use records::slots::ZERO_LINK;
-use records::slots::ZERO_OPEN;
-use records::slots::ZERO_STREAM;
+use records_files::write_file;
+use records_streams::write_stream;
+use records_volume::write_mark;
+use records_volume::write_next;
 ghost use mathlib.Core.Path.{_≡_};
+ghost use lib.ListN.{length, replicate};
+ghost use Rattle.records.specs.Sizes.{accounts};
 ghost use Rattle.records.specs.State.{Answers};
-ghost use Rattle.format.specs.Format as definitions;
+ghost use Rattle.layout.specs.Layout.{tablesSize, encode};
+ghost use Rattle.format.specs.Format.{rootFile, rootStream, freshTables};
+ghost use Rattle.format.specs.Bytes.{formatBytes};
+
+// Every byte becomes 0.
+fn clear(b: &mut [u8])
+    ensures { λ _. ⌜ now (b .exit) ≡ replicate (length (now (b .entry))) 0 ⌝ }
+{
+    let mut i = 0;
+    while i < b.len() {
+        b[i] = 0;
+        i += 1;
+    }
+}
+
+// The masks by value, as a file holds them.
+fn copied(masks: &[u32]) -> [u32; ACCOUNTS]
+    requires { ⌜ length (now masks) ≡ accounts ⌝ }
+    ensures { λ r. ⌜ r ≡ now (masks .entry) ⌝ }
+{
+    let mut copy = [0u32; ACCOUNTS];
+    let mut account = 0;
+    while account < ACCOUNTS {
+        copy[account] = masks[account];
+        account += 1;
+    }
+    copy
+}
 
 // File 0.
 fn root_file(masks: [u32; ACCOUNTS]) -> File
-    ensures { λ r. ⌜ r ≡ definitions.rootFile masks ⌝ }
+    ensures { λ r. ⌜ r ≡ rootFile masks ⌝ }
 {
     File {
         file_type: FileType::Directory,
@@ -39,7 +64,7 @@ fn root_file(masks: [u32; ACCOUNTS]) -> File
 
 // Its stream.
 fn root_stream() -> Stream
-    ensures { λ r. ⌜ r ≡ definitions.rootStream ⌝ }
+    ensures { λ r. ⌜ r ≡ rootStream ⌝ }
 {
     Stream {
         file: FileNo(0),
@@ -49,48 +74,37 @@ fn root_stream() -> Stream
     }
 }
 
-fn fresh_volume(masks: [u32; ACCOUNTS], read_only: bool) -> Volume
-    ensures { λ r. ⌜ r ≡ definitions.freshVolume masks «read_only» ⌝ }
+// The bytes of fresh tables: all zero but the mark, the next handle, file 0 and its stream.
+fn write_fresh(b: &mut [u8], masks: [u32; ACCOUNTS], read_only: bool)
+    requires { ⌜ length (now b) ≡ tablesSize ⌝ }
+    ensures { λ _. ⌜ now (b .exit) ≡ encode (freshTables masks «read_only») ⌝ }
 {
-    let mut files = [ZERO_FILE; FILE_SLOTS];
-    files[0] = root_file(masks);
-    let links = [ZERO_LINK; LINK_SLOTS];
-    let mut streams = [ZERO_STREAM; STREAM_SLOTS];
-    streams[0] = root_stream();
-    Volume {
-        read_only,
-        next_handle: Handle(1),
-        files,
-        links,
-        streams,
+    clear(b);
+    write_mark(b, read_only);
+    write_next(b, Handle(1));
+    write_file(b, FileNo(0), root_file(masks));
+    write_stream(b, StreamNo(0), root_stream());
+}
+
+// The length decides first, then the masks. A refusal leaves every byte.
+pub fn format(b: &mut [u8], masks: &[u32], read_only: bool) -> Answer
+    ensures { λ r. ⌜ Answers r (now (b .exit)) (formatBytes (now (b .entry)) (now (masks .entry)) «read_only») ⌝ }
+{
+    if b.len() != TABLES_SIZE {
+        return Answer {
+            outcome: Outcome::Refused(Status::FileCorruptError),
+            granted: 0,
+        };
     }
-}
-
-fn fresh_opens() -> OpenTable
-    ensures { λ r. ⌜ r ≡ definitions.freshOpens ⌝ }
-{
-    let rows = [ZERO_OPEN; OPEN_SLOTS];
-    OpenTable { rows }
-}
-
-// Tables by value have the right lengths, so only the masks decide.
-pub fn format(v: Volume, t: OpenTable, masks: [u32; ACCOUNTS], read_only: bool) -> Answer
-    ensures { λ r. ⌜ Answers r (definitions.format (record { volume = v; opens = t }) masks «read_only») ⌝ }
-{
     if !valid_masks(masks) {
         return Answer {
             outcome: Outcome::Refused(Status::InvalidParameter),
             granted: 0,
-            volume: v,
-            opens: t,
         };
     }
-    let volume = fresh_volume(masks, read_only);
-    let opens = fresh_opens();
+    write_fresh(b, copied(masks), read_only);
     Answer {
         outcome: Outcome::Done,
         granted: 0,
-        volume,
-        opens,
     }
 }

@@ -1,25 +1,25 @@
--- The lowest free slot of each table of the volume, from a place on (step 12).
-use Rattle.base.specs.Base.{ℕ, Option, none, some, firstFree, fileUsed, linkUsed, streamUsed, Volume}
+-- Step 12, DISK_FULL: the lowest free slots, from a number on.
+use Rattle.base.specs.Base.{ℕ, firstFree, fileUsed, linkUsed, bareUsed, Namespace, Checked, passed, refuse, _>>=_, someOr, DiskFull, FileNo, LinkNo, StreamNo}
 use Rattle.free_slots.specs.declared.{FileSlot.FileSlot, LinkSlot.LinkSlot, StreamSlot.StreamSlot}
 
--- the place that a search finds, as the code answers it
-unfoldable pub fileSlot : Option ℕ → FileSlot
-fileSlot none = FileSlot.Full
-fileSlot (some n) = FileSlot.At (record { 0 = n })
+unfoldable pub freeFile : Namespace → Checked FileNo
+freeFile ns = someOr DiskFull (firstFree fileUsed 0 (ns .files)) >>= (λ n. passed (record { 0 = n }))
 
-unfoldable pub linkSlot : Option ℕ → LinkSlot
-linkSlot none = LinkSlot.Full
-linkSlot (some n) = LinkSlot.At (record { 0 = n })
+unfoldable pub freeLink : Namespace → Checked LinkNo
+freeLink ns = someOr DiskFull (firstFree linkUsed 0 (ns .links)) >>= (λ n. passed (record { 0 = n }))
 
-unfoldable pub streamSlot : Option ℕ → StreamSlot
-streamSlot none = StreamSlot.Full
-streamSlot (some n) = StreamSlot.At (record { 0 = n })
+unfoldable pub freeStream : Namespace → ℕ → Checked StreamNo
+freeStream ns n = someOr DiskFull (firstFree bareUsed n (ns .streams)) >>= (λ m. passed (record { 0 = m }))
 
-unfoldable pub freeFileSlot : Volume → FileSlot
-freeFileSlot v = fileSlot (firstFree fileUsed 0 (v .files))
+-- the code's answers
+unfoldable pub fileSlot : FileSlot → Checked FileNo
+fileSlot (FileSlot.At n) = passed n
+fileSlot FileSlot.Full = refuse DiskFull
 
-unfoldable pub freeLinkSlot : Volume → LinkSlot
-freeLinkSlot v = linkSlot (firstFree linkUsed 0 (v .links))
+unfoldable pub linkSlot : LinkSlot → Checked LinkNo
+linkSlot (LinkSlot.At n) = passed n
+linkSlot LinkSlot.Full = refuse DiskFull
 
-unfoldable pub freeStreamSlot : Volume → ℕ → StreamSlot
-freeStreamSlot v from = streamSlot (firstFree streamUsed from (v .streams))
+unfoldable pub streamSlot : StreamSlot → Checked StreamNo
+streamSlot (StreamSlot.At n) = passed n
+streamSlot StreamSlot.Full = refuse DiskFull

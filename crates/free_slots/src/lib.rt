@@ -1,16 +1,19 @@
-// The lowest free slot of each table of the volume.
+// The lowest free slot of each table of the volume, in the lent bytes: one field a slot says whether it is free.
 use records::FileNo;
 use records::LinkNo;
 use records::StreamNo;
-use records::Volume;
 use records::sizes::FILE_SLOTS;
 use records::sizes::LINK_SLOTS;
 use records::sizes::STREAM_SLOTS;
-use records::slots::file_used;
-use records::slots::link_used;
-use records::slots::stream_used;
+use records::slots::is_used;
+use records_files::read_file_type;
+use records_links::read_link_used;
+use records_streams::read_stream_type;
 ghost use mathlib.Core.Path.{_≡_};
-ghost use Rattle.free_slots.specs.Free.{freeFileSlot, freeLinkSlot, freeStreamSlot};
+ghost use lib.ListN.{length};
+ghost use Rattle.records.specs.Namespace.{namespace};
+ghost use Rattle.layout.specs.Layout.{tablesSize, decode};
+ghost use Rattle.free_slots.specs.Free.{freeFile, freeLink, freeStream, fileSlot, linkSlot, streamSlot};
 
 // What a search for a free slot finds: the lowest one, or that the table is full.
 pub enum FileSlot {
@@ -28,48 +31,42 @@ pub enum StreamSlot {
     Full,
 }
 
-pub fn free_file(v: Volume) -> FileSlot
-    ensures { λ r. ⌜ r ≡ freeFileSlot v ⌝ }
+pub fn free_file(b: &[u8]) -> FileSlot
+    requires { ⌜ length (now b) ≡ tablesSize ⌝ }
+    ensures { λ r. ⌜ fileSlot r ≡ freeFile (namespace (decode (now (b .entry)) .volume)) ⌝ }
 {
-    let mut i: usize = 0;
-    while i < FILE_SLOTS {
-        let f = v.files[i];
-        if !file_used(f) {
-            let n = i as u16;
-            return FileSlot::At(FileNo(n));
+    for i in 0..FILE_SLOTS {
+        let n = FileNo(i as u16);
+        if !is_used(read_file_type(b, n)) {
+            return FileSlot::At(n);
         }
-        i += 1;
     }
     FileSlot::Full
 }
 
-pub fn free_link(v: Volume) -> LinkSlot
-    ensures { λ r. ⌜ r ≡ freeLinkSlot v ⌝ }
+pub fn free_link(b: &[u8]) -> LinkSlot
+    requires { ⌜ length (now b) ≡ tablesSize ⌝ }
+    ensures { λ r. ⌜ linkSlot r ≡ freeLink (namespace (decode (now (b .entry)) .volume)) ⌝ }
 {
-    let mut i: usize = 0;
-    while i < LINK_SLOTS {
-        let l = v.links[i];
-        if !link_used(l) {
-            let n = i as u16;
-            return LinkSlot::At(LinkNo(n));
+    for i in 0..LINK_SLOTS {
+        let n = LinkNo(i as u16);
+        if !read_link_used(b, n) {
+            return LinkSlot::At(n);
         }
-        i += 1;
     }
     LinkSlot::Full
 }
 
 // The search starts at a place: an open may add two streams.
-pub fn free_stream(v: Volume, from: usize) -> StreamSlot
-    ensures { λ r. ⌜ r ≡ freeStreamSlot v from ⌝ }
+pub fn free_stream(b: &[u8], from: usize) -> StreamSlot
+    requires { ⌜ length (now b) ≡ tablesSize ⌝ }
+    ensures { λ r. ⌜ streamSlot r ≡ freeStream (namespace (decode (now (b .entry)) .volume)) from ⌝ }
 {
-    let mut i = from;
-    while i < STREAM_SLOTS {
-        let s = v.streams[i];
-        if !stream_used(s) {
-            let n = i as u16;
-            return StreamSlot::At(StreamNo(n));
+    for i in from..STREAM_SLOTS {
+        let n = StreamNo(i as u16);
+        if !is_used(read_stream_type(b, n)) {
+            return StreamSlot::At(n);
         }
-        i += 1;
     }
     StreamSlot::Full
 }

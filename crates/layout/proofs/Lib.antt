@@ -8,3 +8,5 @@ pub mod Typed
 pub mod Parts
 pub mod InPlace
 pub mod Stands
+pub mod Zeros
+pub mod Calls

@@ -45,6 +45,11 @@ pub stands-both : (bs : List ℕ) → length bs ≡ tablesSize → tablesCodec .
 unfolding standsForTables
 stands-both bs l s = and-eq-true-iff _ _ .1 (eq-eqb _ _ l, s)
 
+-- the bytes of tables stand for tables
+pub encode-stands : (t : Tables) → TablesFit t → standsForTables (encode t) ≡ true
+unfolding encode
+encode-stands t h = stands-both (tablesCodec .encode t) (tables-lawful .long t h) (tables-lawful .stand t h)
+
 -- bytes that stand for tables are the bytes of those tables
 pub encode-decode : (bs : List ℕ) → Bytes bs → standsForTables bs ≡ true → encode (decode bs) ≡ bs
 unfolding decode encode

@@ -43,10 +43,8 @@ linkCodec =
     (fileNoCodec ⊗ fileNoCodec ⊗ row (number 2) fileNameLimit)
 
 -- the seven share counts
-abbrev pub countsCodec : Codec ShareCounts
-countsCodec =
-    via
-    (λ p.
+abbrev pub countsOf : ℕ × (ℕ × (ℕ × (ℕ × (ℕ × (ℕ × ℕ))))) → ShareCounts
+countsOf p =
     record {
       opens = p .0;
       readers = p .1 .0;
@@ -55,11 +53,17 @@ countsCodec =
       «shared_read» = p .1 .1 .1 .1 .0;
       «shared_write» = p .1 .1 .1 .1 .1 .0;
       «shared_delete» = p .1 .1 .1 .1 .1 .1;
-    })
-    (λ c. (
-      c .opens,
-      (c .readers, (c .writers, (c .deleters, (c .«shared_read», (c .«shared_write», c .«shared_delete»))))),
-    ))
+    }
+
+abbrev pub countsFields : ShareCounts → ℕ × (ℕ × (ℕ × (ℕ × (ℕ × (ℕ × ℕ)))))
+countsFields c = (
+  c .opens,
+  (c .readers, (c .writers, (c .deleters, (c .«shared_read», (c .«shared_write», c .«shared_delete»))))),
+)
+
+abbrev pub countsCodec : Codec ShareCounts
+countsCodec =
+    via countsOf countsFields
     (number 2 ⊗ number 2 ⊗ number 2 ⊗ number 2 ⊗ number 2 ⊗ number 2 ⊗ number 2)
 
 -- kind, file, name, counts

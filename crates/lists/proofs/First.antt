@@ -1,9 +1,9 @@
 -- The first place that passes, and the first element.
 use Prim.Native.Nat.{ℕ, suc, _+_, _≤_, _<_}
 use lib.{ListN.{length, getD, drop, drop-of-length-le, length-drop}, Seq.{drop-cons, getD-drop}}
-use mathlib.Core.{Path.{_≡_, refl, sym, _∙_, ap}, Bool.{Bool, true, false, not, _&&_, false≢true, and-comm}, List.{List, [], _∷_, map}, Option.{Option, none, some, Option·some-injective}}
+use mathlib.Core.{Path.{_≡_, refl, sym, _∙_, ap}, Bool.{Bool, true, false, not, _&&_, false≢true, and-comm}, List.{List, [], _∷_, map}, Logic._↔_, Option.{Option, none, some, Option·some-injective}}
 use native.Mathlib.{Numerals.add-one, Omega.arith}
-use Rattle.lists.proofs.{Tests.{none≢some, by-cases, and-left, and-right, excluded}, Permutations.perm-pairs}
+use Rattle.lists.proofs.{Tests.{none≢some, by-cases, and-left, and-right, excluded, or-neither}, Places.drop-map, Permutations.perm-pairs}
 use Rattle.lists.specs.Lists.{all, any, keep, pairs, firstFrom, first, firstAfter, find, Permutation, nil, skip, swap, both}
 
 -- a place that a search finds: from the start of the search on, below the length, and it passes
@@ -63,6 +63,13 @@ module _ {A : Type 0} (p : A → Bool) where
       by-cases (p x) (λ e. absurd (none≢some (sym h ∙ here x xs at e)))
       (λ e. rw e (from-none xs (suc at) (sym (next x xs at e) ∙ h)))
 
+  from-any : (xs : List A) (at : ℕ) → any p xs ≡ false → firstFrom p xs at ≡ none
+  unfolding firstFrom any
+  from-any [] at h = refl
+  from-any (x ∷ xs) at h =
+      let n = or-neither (p x) (any p xs) h in
+      next x xs at (n .0) ∙ from-any xs (suc at) (n .1)
+
   from-some : (xs : List A) (at : ℕ) → any p xs ≡ true → (k : ℕ) × (firstFrom p xs at ≡ some k)
   unfolding firstFrom any
   from-some [] at h = absurd (false≢true h)
@@ -77,6 +84,38 @@ module _ {A : Type 0} (p : A → Bool) where
   pub first-some : (xs : List A) → any p xs ≡ true → (k : ℕ) × (first p xs ≡ some k)
   unfolding first
   first-some xs h = from-some xs 0 h
+
+  pub found-iff : (xs : List A) → (any p xs ≡ true) ↔ ((k : ℕ) × (firstAfter p 0 xs ≡ some k))
+  unfolding firstAfter
+  found-iff xs = (from-some xs 0, λ q. by-cases (any p xs) (λ e. e) (λ e. absurd (none≢some (sym (from-any xs 0 e) ∙ q .1))))
+
+  pub none-iff : (xs : List A) → (any p xs ≡ false) ↔ (firstAfter p 0 xs ≡ none)
+  unfolding firstAfter
+  none-iff xs = (from-any xs 0, from-none xs 0)
+
+-- a search from place n on that has come to place i: what it finds is what the rest of the list gives
+pub record Searching {A : Type 0} (p : A → Bool) (xs : List A) (n i : ℕ) : Type 0 where
+  pub is : firstAfter p n xs ≡ firstFrom p (drop i xs) i
+
+module _ {A : Type 0} {p : A → Bool} {xs : List A} {n : ℕ} where
+  pub searching-begins : Searching p xs n n
+  unfolding firstAfter
+  searching-begins = record { is = refl }
+
+  module _ {i : ℕ} (s : Searching p xs n i) where
+    -- one turn
+    module _ (d : A) (below : i < length xs) where
+      pub searching-finds : p (getD xs i d) ≡ true → firstAfter p n xs ≡ some i
+      unfolding firstFrom
+      searching-finds e = s .is ∙ rw (drop-cons xs i d below, firstFrom, e)
+
+      pub searching-turns : p (getD xs i d) ≡ false → Searching p xs n (i + 1)
+      unfolding firstFrom
+      searching-turns e = record { is = s .is ∙ rw (add-one, drop-cons xs i d below, firstFrom, e) }
+
+    pub searching-ends : length xs ≤ i → firstAfter p n xs ≡ none
+    unfolding firstFrom
+    searching-ends h = s .is ∙ rw (drop-of-length-le xs h)
 
 -- what a search from place i on answers: `answer` makes the answer of the place found
 abbrev pub answerFrom : {A R : Type 0} → (Option ℕ → R) → (A → Bool) → List A → ℕ → R
@@ -103,6 +142,10 @@ module _ {A B : Type 0} (f : A → B) (p : B → Bool) where
   unfolding firstFrom
   from-map [] at = refl
   from-map (x ∷ xs) at = by-cases (p (f x)) (λ e. rw (e, firstFrom)) (λ e. rw (e, firstFrom) (from-map xs (suc at)))
+
+  pub after-map : (n : ℕ) (xs : List A) → firstAfter p n (map f xs) ≡ firstAfter (λ x. p (f x)) n xs
+  unfolding firstAfter
+  after-map n xs = rw drop-map (from-map (drop n xs) n)
 
   pub first-map : (xs : List A) → first p (map f xs) ≡ first (λ x. p (f x)) xs
   unfolding first

@@ -15,3 +15,4 @@ pub mod Pigeonhole
 pub mod Keyed
 pub mod Counted
 pub mod Back
+pub mod Copied

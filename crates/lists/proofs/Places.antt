@@ -1,7 +1,7 @@
 -- A list by its places: `getD xs i d` is the element at place i, and d past the end; `drop i xs` is what is left there.
 use Prim.Native.Nat.{ℕ, zero, suc, _+_, _-_, _≤_, _<_}
 use lib.{ListN.{length, getD, drop}, Seq.drop-cons}
-use mathlib.Core.{Path.{_≡_, refl, ap, _∙_}, Bool.{Bool, true, false}, List.{List, [], _∷_}}
+use mathlib.Core.{Path.{_≡_, refl, ap, _∙_}, Bool.{Bool, true, false}, List.{List, [], _∷_, map}}
 use native.Mathlib.{Numerals.add-one, Omega.arith}
 use Rattle.lists.proofs.Tests.{not-both}
 
@@ -29,3 +29,9 @@ module _ {A : Type 0} (xs : List A) (i : ℕ) (d : A) where
   drop-back h k =
       drop-cons xs (i - 1) d (omega arith)
       ∙ ap (λ (n : ℕ). getD xs (i - 1) d ∷ drop n xs) (let e : suc (i - 1) ≡ i = omega arith in e)
+
+-- a list made from another
+pub drop-map : {A B : Type 0} (f : A → B) (n : ℕ) (xs : List A) → drop n (map f xs) ≡ map f (drop n xs)
+drop-map f zero xs = refl
+drop-map f (suc n) [] = refl
+drop-map f (suc n) (x ∷ xs) = drop-map f n xs

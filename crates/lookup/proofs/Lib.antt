@@ -1,3 +1,2 @@
--- Laws that the proofs of the searches and of the walk cite.
-pub mod Searching
+-- Laws that the proofs of the walk cite.
 pub mod Walking

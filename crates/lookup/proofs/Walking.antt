@@ -1,54 +1,31 @@
 -- The walk at a place of the path before the last component: at its end, at a component that leads into a directory, and
 -- at one that does not.
-use Rattle.base.{specs.Base.{ℕ, _≤_, _<_, _≡_, Bool, true, false, cond, List, [], _∷_, Option, none, some, length, getD, drop, isEmpty, fileSlots, linkSlots, root, zeroFile, zeroLink, isDirectory, Namespace, namespace, Checked, refused, passed, refuse, _>>=_, Status, ObjectPathNotFound, FileNo, LinkNo, File, Link, Volume}, proofs.Laws.{refl, sym, ap, _∙_, arith, List·getD-eq-default, getD-default}}
+use Rattle.base.{specs.Base.{ℕ, _≡_, Bool, true, false, cond, List, [], _∷_, Option, none, some, length, drop, isEmpty, root, isDirectory, Namespace, namespace, Checked, refused, passed, refuse, _>>=_, Status, ObjectPathNotFound, FileNo, LinkNo, FileType, Volume}, proofs.Laws.{refl, arith}}
 use Rattle.components.{specs.{Components.components, Positions.{nextComponent, partOf}}, proofs.Places.{next-found, next-none}}
 use Rattle.paths.specs.Paths.{Leaf}
 use Rattle.tables.specs.Tables.{fileAt, linkAt}
-use Rattle.lookup.specs.{Lookup.{findLink, stepInto, descend, Place, missing, foundRoot, foundBy, placeIn, locateLeaf, locate}, Answers.{lastStep, walkEnds, walkedFrom}, declared.{walk.FoundFile.{FoundFile, the-variants.{At, Missing}}, Walked.Walked}}
+use Rattle.lookup.specs.{Lookup.{findLink, stepInto, descend, Place, missing, foundRoot, foundBy, placeIn, locateLeaf, locate}, Answers.{foundLink, lastStep, walkEnds, walkedFrom}, declared.{FoundLink.the-variants.{At, Missing}, Walked.Walked}}
 use Rattle.lookup.specs.declared.Walked.the-variants as End
 
--- what the search for a component before the last finds: its link's file
+-- the definition's step from what the search for a component before the last finds, by what the code reads in the tables
 
-unfoldable pub foundFile : List Link → Option LinkNo → FoundFile
-foundFile ls none = Missing
-foundFile ls (some l) = At (linkAt ls l .file)
-
--- the definition's step from there
-
-module _ (ns : Namespace) where
-  pub step-lost : (o : Option LinkNo) → foundFile (ns .links) o ≡ Missing → stepInto ns o ≡ refuse ObjectPathNotFound
-  unfolding foundFile stepInto
+module _ (v : Volume) where
+  pub step-lost : (o : Option LinkNo) → foundLink o ≡ Missing → stepInto (namespace v) o ≡ refuse ObjectPathNotFound
+  unfolding foundLink stepInto
   step-lost none e = refl
   step-lost (some l) e = cc
 
-  pub step-found : (o : Option LinkNo) (next : FileNo) {b : Bool} → foundFile (ns .links) o ≡ At next → isDirectory (fileAt (ns .files) next .«file_type») ≡ b
-      → stepInto ns o ≡ cond b (passed next) (refuse ObjectPathNotFound)
-  unfolding foundFile stepInto
-  step-found none next e kind = cc
-  step-found (some l) next e kind = let q : linkAt (ns .links) l .file ≡ next = cc in rw (q, kind)
-
--- what the code reads in the tables: past the end of the files is no directory
-
-module _ (v : Volume) where
-  pub file-read : length (v .links) ≡ linkSlots → (i : ℕ) (d : Link) → i < linkSlots
-      → foundFile (namespace v .links) (some (record { 0 = i })) ≡ At (getD (v .links) i d .file)
-  unfolding foundFile linkAt namespace
-  file-read full i d below = ap (λ (l : Link). At (l .file)) (getD-default (v .links) i zeroLink d (omega arith))
-
-  module _ (full : length (v .files) ≡ fileSlots) (f : FileNo) where
-    pub kind-read : (d : File) {b : Bool} → f .0 < fileSlots → b ≡ isDirectory (getD (v .files) (f .0) d .«file_type»)
-        → isDirectory (fileAt (namespace v .files) f .«file_type») ≡ b
-    unfolding fileAt namespace
-    kind-read d below judged = ap (λ (g : File). isDirectory (g .«file_type»)) (getD-default (v .files) (f .0) zeroFile d (omega arith)) ∙ sym judged
-
-    pub kind-past : fileSlots ≤ f .0 → isDirectory (fileAt (namespace v .files) f .«file_type») ≡ false
-    unfolding fileAt isDirectory namespace
-    kind-past past = ap (λ (g : File). isDirectory (g .«file_type»)) (List·getD-eq-default (v .files) zeroFile (omega arith))
+  pub step-found : (o : Option LinkNo) {l : LinkNo} {next : FileNo} {kind : FileType} {b : Bool} → foundLink o ≡ At l
+      → next ≡ linkAt (v .links) l .file → kind ≡ fileAt (v .files) next .«file_type» → b ≡ isDirectory kind
+      → stepInto (namespace v) o ≡ cond b (passed next) (refuse ObjectPathNotFound)
+  unfolding foundLink stepInto namespace
+  step-found none e f g h = cc
+  step-found (some m) {l} e f g h = let q : m ≡ l = cc in rw (q, ← f, ← g, ← h)
 
 -- the walk from a directory, by what is left of the components
 
 module _ (ns : Namespace) (fold : Bool) (dir : FileNo) (name : List ℕ) where
-  ends : walkedFrom ns fold dir [] name ≡ lastStep dir (findLink ns fold dir name)
+  ends : walkedFrom ns fold dir [] name ≡ lastStep dir (foundLink (findLink ns fold dir name))
   unfolding walkedFrom walkEnds descend
   ends = refl
 
@@ -68,7 +45,7 @@ module _ (ns : Namespace) (fold : Bool) (dir : FileNo) (name parents : List ℕ)
   abbrev pub walkLeft : Walked
   walkLeft = walkedFrom ns fold dir (components (drop at parents)) name
 
-  pub walk-ends : nextComponent parents at .start ≡ nextComponent parents at .end → walkLeft ≡ lastStep dir (findLink ns fold dir name)
+  pub walk-ends : nextComponent parents at .start ≡ nextComponent parents at .end → walkLeft ≡ lastStep dir (foundLink (findLink ns fold dir name))
   walk-ends e = rw (next-none parents at e) (ends ns fold dir name)
 
   module _ (more : nextComponent parents at .start ≡ nextComponent parents at .end → ⊥) where
@@ -109,10 +86,10 @@ module _ (ns : Namespace) (fold : Bool) (parents : List (List ℕ)) (leaf : Leaf
 
   pub walk-leads : isEmpty (leaf .file) ≡ false
       → placeFrom ns leaf (walkedFrom ns fold root parents (leaf .file)) ≡ locate ns fold (record { parents = parents; leaf = leaf })
-  unfolding placeFrom walkedFrom walkEnds lastStep locate locateLeaf placeIn _>>=_
+  unfolding placeFrom walkedFrom walkEnds lastStep foundLink locate locateLeaf placeIn _>>=_
   walk-leads named = rw (named, locate) (go (descend ns fold root parents))
     where
-      step : (dir : FileNo) (o : Option LinkNo) → placeFrom ns leaf (lastStep dir o) ≡ passed (placeIn ns dir leaf o)
+      step : (dir : FileNo) (o : Option LinkNo) → placeFrom ns leaf (lastStep dir (foundLink o)) ≡ passed (placeIn ns dir leaf o)
       step dir none = refl
       step dir (some l) = refl
 

@@ -2,18 +2,23 @@
 use Rattle.base.specs.Base.{ℕ, Bool, List, Option, none, some, Namespace, Checked, refused, passed, refuse, _>>=_, FileNo, LinkNo}
 use Rattle.components.specs.Positions.{parentsOf}
 use Rattle.paths.specs.{Paths.{Path, Leaf, noLeaf}, Positions.{asLeaf, asPath}, declared.{LeafParts.LeafParts, ParsedPath.{ParsedPath, the-variants.{Invalid, Root, Named}}}}
-use Rattle.lookup.specs.{Lookup.{findLink, descend, Place, found, missing, foundRoot, locate}, declared.{Located.Located, Walked.Walked}}
+use Rattle.lookup.specs.{Lookup.{findLink, descend, Place, found, missing, foundRoot, locate}, declared.{FoundLink.{FoundLink, the-variants.{At, Missing}}, Located.Located, Walked.Walked}}
 use Rattle.lookup.specs.declared.Located.the-variants as Located
 use Rattle.lookup.specs.declared.Walked.the-variants as End
 
+-- what the search for a name finds
+unfoldable pub foundLink : Option LinkNo → FoundLink
+foundLink none = Missing
+foundLink (some l) = At l
+
 -- the walk's last step, in the directory that it came to
-unfoldable pub lastStep : FileNo → Option LinkNo → Walked
-lastStep dir none = End.Missing dir
-lastStep dir (some l) = End.Link l
+unfoldable pub lastStep : FileNo → FoundLink → Walked
+lastStep dir Missing = End.Missing dir
+lastStep dir (At l) = End.Link l
 
 unfoldable pub walkEnds : Namespace → Bool → List ℕ → Checked FileNo → Walked
 walkEnds ns fold name (refused r) = End.Refused (r .status)
-walkEnds ns fold name (passed dir) = lastStep dir (findLink ns fold dir name)
+walkEnds ns fold name (passed dir) = lastStep dir (foundLink (findLink ns fold dir name))
 
 -- the walk from a directory through the components before the last, and the last component's name
 unfoldable pub walkedFrom : Namespace → Bool → FileNo → List (List ℕ) → List ℕ → Walked

@@ -1,10 +1,17 @@
 // Path lookup (the paper's walk, step 6). The lowest matching slot wins.
+mod links;
 mod walk;
 
 use records::FileNo;
 use records::LinkNo;
 use records::Status;
 pub use walk::locate;
+
+// What a search for a name in a directory finds.
+pub enum FoundLink {
+    At(LinkNo),
+    Missing,
+}
 
 // Where the walk ends: at the last component's link, in a directory that lacks its name, or at a refusal.
 pub enum Walked {

@@ -1,22 +1,19 @@
--- The table of opens: a row by its place, the lowest free row (step 12), and whether a file has an open (step 10).
-use Rattle.base.specs.Base.{ℕ, Bool, List, Option, none, some, eqb, getD, any, firstFree, keep, openUsed, zeroOpen, FileNo, Open, OpenTable}
-use Rattle.open_table.specs.declared.OpenSlot.{OpenSlot}
+-- The table of opens: the lowest free row (step 12), and whether a file has an open (step 10).
+use Rattle.base.specs.Base.{ℕ, Bool, List, Option, none, some, eqb, any, firstFree, openUsed, FileNo, Open}
+use Rattle.tables.specs.Tables.{live}
+use Rattle.open_table.specs.declared.OpenSlot.{OpenSlot, the-variants.{At, Full}}
 
--- past the table's end stands the record of a free row
-unfoldable pub rowAt : OpenTable → ℕ → Open
-rowAt t n = getD (t .rows) n zeroOpen
+abbrev pub freeRow : List Open → Option ℕ
+freeRow os = firstFree openUsed 0 os
 
--- the place that a search finds, as the code answers it
-unfoldable pub openSlot : Option ℕ → OpenSlot
-openSlot none = OpenSlot.Full
-openSlot (some n) = OpenSlot.At n
-
-unfoldable pub freeRow : OpenTable → OpenSlot
-freeRow t = openSlot (firstFree openUsed 0 (t .rows))
+-- the code's answer
+unfoldable pub rowSlot : OpenSlot → Option ℕ
+rowSlot (At n) = some n
+rowSlot Full = none
 
 -- some open of a list, counted or not, is on the file; some live one of the table
 unfoldable pub anyOnFile : FileNo → List Open → Bool
 anyOnFile f os = any (λ o. eqb (o .file .0) (f .0)) os
 
-unfoldable pub fileHasOpen : OpenTable → FileNo → Bool
-fileHasOpen t f = anyOnFile f (keep openUsed (t .rows))
+abbrev pub fileHasOpen : List Open → FileNo → Bool
+fileHasOpen os f = anyOnFile f (live os)

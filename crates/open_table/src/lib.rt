@@ -1,12 +1,12 @@
-// The table of opens: a row by its place, the lowest free row, and whether a file has an open.
+// The table of opens in the lent bytes: the lowest free row, and whether a file has an open.
 use records::FileNo;
-use records::Open;
-use records::OpenTable;
 use records::sizes::OPEN_SLOTS;
-use records::slots::ZERO_OPEN;
-use records::slots::open_used;
+use records_opens::read_handle;
+use records_opens::read_open_file;
 ghost use mathlib.Core.Path.{_≡_};
-ghost use Rattle.open_table.specs.Rows.{rowAt, freeRow, fileHasOpen};
+ghost use lib.ListN.{length};
+ghost use Rattle.layout.specs.Layout.{tablesSize, decode};
+ghost use Rattle.open_table.specs.Rows.{freeRow, rowSlot, fileHasOpen};
 
 // What a search for a free row finds: the lowest one, or that the table is full. A row has no number of its own kind:
 // handles come from elsewhere.
@@ -15,37 +15,27 @@ pub enum OpenSlot {
     Full,
 }
 
-pub fn open_at(t: OpenTable, n: usize) -> Open
-    ensures { λ r. ⌜ r ≡ rowAt t n ⌝ }
+pub fn free_open(b: &[u8]) -> OpenSlot
+    requires { ⌜ length (now b) ≡ tablesSize ⌝ }
+    ensures { λ r. ⌜ rowSlot r ≡ freeRow (decode (now (b .entry)) .opens .rows) ⌝ }
 {
-    if n < OPEN_SLOTS { t.rows[n] } else { ZERO_OPEN }
-}
-
-pub fn free_open(t: OpenTable) -> OpenSlot
-    ensures { λ r. ⌜ r ≡ freeRow t ⌝ }
-{
-    let mut i: usize = 0;
-    while i < OPEN_SLOTS {
-        let o = t.rows[i];
-        if !open_used(o) {
+    for i in 0..OPEN_SLOTS {
+        if read_handle(b, i).0 == 0 {
             return OpenSlot::At(i);
         }
-        i += 1;
     }
     OpenSlot::Full
 }
 
-// Some open, counted or not, is on the file.
-pub fn file_has_open(t: OpenTable, f: FileNo) -> bool
-    ensures { λ r. ⌜ r ≡ fileHasOpen t f ⌝ }
+// Some open, counted or not, is on the file. The handle is read only where the file agrees.
+pub fn file_has_open(b: &[u8], f: FileNo) -> bool
+    requires { ⌜ length (now b) ≡ tablesSize ⌝ }
+    ensures { λ r. ⌜ r ≡ fileHasOpen (decode (now (b .entry)) .opens .rows) f ⌝ }
 {
-    let mut i: usize = 0;
-    while i < OPEN_SLOTS {
-        let o = t.rows[i];
-        if open_used(o) && o.file.0 == f.0 {
+    for i in 0..OPEN_SLOTS {
+        if read_open_file(b, i).0 == f.0 && read_handle(b, i).0 != 0 {
             return true;
         }
-        i += 1;
     }
     false
 }

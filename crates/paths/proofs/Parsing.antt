@@ -1,9 +1,9 @@
 -- Laws of step 4: a component by its colons, and the end of a path.
-use Rattle.base.{specs.Base.{ℕ, suc, _+_, _-_, _≤_, _<_, _≡_, Bool, true, false, not, cond, List, [], _∷_, map, Option, none, some, eqb, ltb, length, getD, take, drop, slice, all, isEmpty}, proofs.Laws.{refl, ap, _∙_, false≢true, arith, eqb-true, ltb-true, ltb-false, and-left, and-right, same-is}}
+use Rattle.base.{specs.Base.{ℕ, suc, _-_, _≤_, _<_, _≡_, Bool, true, false, not, cond, List, [], _∷_, map, Option, none, some, eqb, ltb, length, getD, drop, all, isEmpty}, proofs.Laws.{refl, false≢true, arith, eqb-true, ltb-true, ltb-false, and-left, and-right, same-is}}
 use lib.Seq.{slice-empty}
-use Rattle.components.{specs.{Components.split, Positions.{leading, noSign, placeOf}}, proofs.{Splitting.{split-first, split-one, split-more}, Places.{split-last, split-found, part-some}}}
+use Rattle.components.{specs.{Components.split, Positions.{leading, noSign, partOf, parentsOf, Within}, declared.Part.Part}, proofs.{Splitting.{split-first, split-one, split-more}, Places.{Searched, upTo, past, split-last, split-found, part-some, first-within}}}
 use Rattle.units.specs.Units.{colon, dataType, upper, folded, equalUnits}
-use Rattle.paths.specs.Paths.{Leaf, leafOf, endsIn}
+use Rattle.paths.specs.{Paths.{Leaf, leafOf, endsIn}, Positions.{asLeaf, asPath, LeafWithin, Parsed, named}, declared.{LeafParts.LeafParts, ParsedPath.{ParsedPath, the-variants.{Invalid, Named}}}}
 
 -- the last unit
 
@@ -57,27 +57,47 @@ leaf-type f s t = go (ltb (leading (noSign colon) t) (length t)) refl
 
 -- the last component by the colons found
 
-module _ (path : List ℕ) (s e k : ℕ) {units : List ℕ} (before : units ≡ take e path) (found : k ≡ placeOf colon units s) where
-  pub leaf-file : length units ≤ k → leafOf (split colon (slice s e path)) ≡ some (record { file = slice s k path; stream = []; colon = false })
-  unfolding leafOf
-  leaf-file h = rw (split-last colon path s e k before found h)
+refused : (path : List ℕ) (parents : List (List ℕ)) {l : Option Leaf} → l ≡ none → Parsed path Invalid (named parents l)
+unfolding asPath named
+refused path parents e = record { is = rw e; places = tt }
 
-  pub leaf-more : k < length units → leafOf (split colon (slice s e path)) ≡ leafOf (slice s k path ∷ split colon (slice (k + 1) e path))
-  leaf-more h = ap leafOf (split-found colon path s e k before found h)
+found : (path : List ℕ) (parts : LeafParts) {l : Option Leaf} → l ≡ some (asLeaf path parts) → LeafWithin path parts → Parsed path (Named parts) (named (parentsOf path (parts .file)) l)
+unfolding asPath named
+found path parts e within = record { is = rw e; places = within }
 
-  pub stream-type : (f : List ℕ) (b : Bool) {type : List ℕ} → type ≡ slice (k + 1) e path → k < length units → equalUnits true type dataType ≡ b → leafOf (f ∷ split colon (slice s e path)) ≡ cond b (some (record { file = f; stream = slice s k path; colon = true })) none
-  stream-type f b part h typed =
-      ap (λ (l : List (List ℕ)). leafOf (f ∷ l)) (split-found colon path s e k before found h)
-      ∙ rw (← typed, part) (leaf-type f (slice s k path) (slice (k + 1) e path))
+module _ {path : List ℕ} {part : Part} {units : List ℕ} {k : ℕ} (searched : Searched colon path part units k) where
+  -- without a colon
+  pub leaf-file : Within path part → length units ≤ k → Parsed path (Named (record { file = upTo part k; stream = record { start = k; end = k }; colon = false })) (named (parentsOf path part) (leafOf (split colon (partOf path part))))
+  unfolding leafOf asLeaf partOf
+  leaf-file within h =
+      let file = first-within searched within in
+      found path _ (rw (split-last searched h, slice-empty k path))
+      (record { file = file; stream = record { ordered = omega arith; inside = file .inside } })
 
-  pub stream-empty : (f : List ℕ) → length units ≤ k → s ≡ k → leafOf (f ∷ split colon (slice s e path)) ≡ none
-  unfolding leafOf isEmpty
-  stream-empty f h same =
-      ap (λ (l : List (List ℕ)). leafOf (f ∷ l)) (split-last colon path s e k before found h)
-      ∙ rw (same, slice-empty k path)
+  -- after the file's name
+  module _ (file : Part) where
+    abbrev streamOf : LeafParts
+    streamOf = record { file = file; stream = upTo part k; colon = true }
 
-  pub stream-only : (f : List ℕ) → length units ≤ k → (s ≡ k → ⊥) → leafOf (f ∷ split colon (slice s e path)) ≡ some (record { file = f; stream = slice s k path; colon = true })
-  unfolding leafOf
-  stream-only f h ne =
-      ap (λ (l : List (List ℕ)). leafOf (f ∷ l)) (split-last colon path s e k before found h)
-      ∙ rw (part-some colon path s e k before found ne)
+    abbrev Stream : ParsedPath → Type 0
+    Stream r = Parsed path r (named (parentsOf path file) (leafOf (partOf path file ∷ split colon (partOf path part))))
+
+    pub stream-typed : k < length units → equalUnits true (partOf path (past part k)) dataType ≡ true → LeafWithin path streamOf → Stream (Named streamOf)
+    unfolding asLeaf
+    stream-typed h t =
+        found path streamOf
+        (rw (split-found searched h, leaf-type (partOf path file) (partOf path (upTo part k)) (partOf path (past part k)), t))
+
+    pub stream-untyped : k < length units → equalUnits true (partOf path (past part k)) dataType ≡ false → Stream Invalid
+    stream-untyped h t =
+        refused path (parentsOf path file)
+        (rw (split-found searched h, leaf-type (partOf path file) (partOf path (upTo part k)) (partOf path (past part k)), t))
+
+    pub stream-empty : length units ≤ k → part .start ≡ k → Stream Invalid
+    unfolding leafOf isEmpty partOf
+    stream-empty h same =
+        refused path (parentsOf path file) (rw (split-last searched h, same, slice-empty k path))
+
+    pub stream-only : length units ≤ k → (part .start ≡ k → ⊥) → LeafWithin path streamOf → Stream (Named streamOf)
+    unfolding leafOf asLeaf
+    stream-only h ne = found path streamOf (rw (split-last searched h, part-some searched ne))

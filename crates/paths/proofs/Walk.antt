@@ -1,15 +1,16 @@
 -- A walk through a path's components: what holds at one of them, from the first to the last.
 use Rattle.base.{specs.Base.{ℕ, _≡_, Bool, true, false, List, [], _∷_, take, drop, fileNameLimit, passed, refuse, _>>=_, ObjectNameInvalid}, proofs.Laws.{refl, sym, ap, _∙_}}
-use Rattle.components.{specs.{Components.{split, components}, Positions.{placeOf, partOf, nextComponent}, declared.Part.Part}, proofs.{Splitting.Open, Places.{next-found, next-none, first-open, first-parents, next-open, next-parents}}}
+use Rattle.components.{specs.{Components.{split, components}, Positions.{placeOf, partOf, Within, nextComponent}, declared.Part.Part}, proofs.{Splitting.Open, Places.{next-part, next-found, next-none, first-open, first-parents, next-open, next-parents}}}
 use Rattle.names.specs.Names.{validFileName}
 use Rattle.units.specs.Units.{backslash, colon}
 use Rattle.paths.proofs.Judging.{prefixed, prefixed-nil, prefixed-twice, prefixed-last, parse-more, parse-bad}
 use Rattle.paths.specs.{Paths.{noLeaf, leafOf, parseComponents}, Positions.checked}
 
--- at a component: it is not empty, it ends where the next separator stands, the path may be cut before it, and the
+-- at a component: it is not empty, it is a part of the path, it ends where the next separator stands, the path may be cut before it, and the
 -- answer is that for it and what follows, after the components before it
 pub record At (wantsDirectory : Bool) (path : List ℕ) (part : Part) : Type 0 where
   pub some : part .start ≡ part .end → ⊥
+  pub within : Within path part
   pub ends : part .end ≡ placeOf backslash path (part .start)
   pub opened : Open (take (part .start) path)
   pub left : parseComponents wantsDirectory (components path) ≡ prefixed (components (take (part .start) path)) (parseComponents wantsDirectory (partOf path part ∷ components (drop (part .end) path)))
@@ -31,6 +32,7 @@ module _ (wantsDirectory : Bool) (path : List ℕ) where
       let rest = parseComponents wantsDirectory (partOf path q ∷ components (drop (q .end) path)) in
       record {
         some = ne;
+        within = next-part path 0 ne;
         ends = ends-next path 0;
         opened = first-open path;
         left =
@@ -52,6 +54,7 @@ module _ (wantsDirectory : Bool) (path : List ℕ) where
         let rest = parseComponents wantsDirectory (partOf path q ∷ after) in
         record {
           some = ne;
+          within = next-part path (part .end) ne;
           ends = ends-next path (part .end);
           opened = next-open path (part .start) (part .end) (at .ends) ne;
           left =

@@ -13,9 +13,9 @@ ghost use mathlib.Core.Bool.{true};
 ghost use mathlib.Core.List.{_∷_};
 ghost use Rattle.units.specs.Units.{backslash, colon, dataType, equalUnits};
 ghost use Rattle.components.specs.Components.{components, split};
-ghost use Rattle.components.specs.Positions.{partOf, parentsOf};
+ghost use Rattle.components.specs.Positions.{partOf, parentsOf, Within};
 ghost use Rattle.paths.specs.Paths.{leafOf, endsIn, validLeaf, parseComponents, parsePath};
-ghost use Rattle.paths.specs.Positions.{asLeaf, asPath, named, checked};
+ghost use Rattle.paths.specs.Positions.{asLeaf, named, checked, Parsed};
 
 const BACKSLASH: u16 = 0x5C;
 
@@ -45,7 +45,8 @@ fn is_data_type(units: &[u16]) -> bool
 
 // The last component after its file name: STREAM or STREAM:TYPE.
 fn stream_parts(path: &[u16], file: Part, rest: Part) -> ParsedPath
-    ensures { λ r. ⌜ asPath (now (path .entry)) r ≡ named (parentsOf (now (path .entry)) file) (leafOf (partOf (now (path .entry)) file ∷ split colon (partOf (now (path .entry)) rest))) ⌝ }
+    requires { ⌜ Within (now path) file × Within (now path) rest ⌝ }
+    ensures { λ r. ⌜ Parsed (now (path .entry)) r (named (parentsOf (now (path .entry)) file) (leafOf (partOf (now (path .entry)) file ∷ split colon (partOf (now (path .entry)) rest)))) ⌝ }
 {
     let start = rest.start;
     let end = rest.end;
@@ -78,7 +79,8 @@ fn stream_parts(path: &[u16], file: Part, rest: Part) -> ParsedPath
 
 // The last component by its colons: FILE, FILE:STREAM or FILE:STREAM:TYPE.
 fn leaf_parts(path: &[u16], component: Part) -> ParsedPath
-    ensures { λ r. ⌜ asPath (now (path .entry)) r ≡ named (parentsOf (now (path .entry)) component) (leafOf (split colon (partOf (now (path .entry)) component))) ⌝ }
+    requires { ⌜ Within (now path) component ⌝ }
+    ensures { λ r. ⌜ Parsed (now (path .entry)) r (named (parentsOf (now (path .entry)) component) (leafOf (split colon (partOf (now (path .entry)) component)))) ⌝ }
 {
     let start = component.start;
     let end = component.end;
@@ -123,7 +125,8 @@ fn valid_leaf(path: &[u16], leaf: LeafParts, wants_directory: bool) -> bool
 
 // The last component, valid.
 fn checked_leaf(path: &[u16], component: Part, wants_directory: bool) -> ParsedPath
-    ensures { λ r. ⌜ asPath (now (path .entry)) r ≡ checked «wants_directory» (parentsOf (now (path .entry)) component) (leafOf (split colon (partOf (now (path .entry)) component))) ⌝ }
+    requires { ⌜ Within (now path) component ⌝ }
+    ensures { λ r. ⌜ Parsed (now (path .entry)) r (checked «wants_directory» (parentsOf (now (path .entry)) component) (leafOf (split colon (partOf (now (path .entry)) component)))) ⌝ }
 {
     let parsed = leaf_parts(path, component);
     let ParsedPath::Named(leaf) = parsed else {
@@ -137,7 +140,7 @@ fn checked_leaf(path: &[u16], component: Part, wants_directory: bool) -> ParsedP
 
 // The components in order: each before the last a valid file name, then the last.
 fn parse_components(path: &[u16], wants_directory: bool) -> ParsedPath
-    ensures { λ r. ⌜ asPath (now (path .entry)) r ≡ parseComponents «wants_directory» (components (now (path .entry))) ⌝ }
+    ensures { λ r. ⌜ Parsed (now (path .entry)) r (parseComponents «wants_directory» (components (now (path .entry)))) ⌝ }
 {
     let mut part = next_component(path, 0);
     if part.start == part.end {
@@ -168,7 +171,7 @@ fn ends_in_backslash(path: &[u16]) -> bool
 
 // The path whole. `wants_directory` and `wants_file` are options 0x1 and 0x40 of an open.
 pub fn parse_path(path: &[u16], wants_directory: bool, wants_file: bool) -> ParsedPath
-    ensures { λ r. ⌜ asPath (now (path .entry)) r ≡ parsePath «wants_directory» «wants_file» (now (path .entry)) ⌝ }
+    ensures { λ r. ⌜ Parsed (now (path .entry)) r (parsePath «wants_directory» «wants_file» (now (path .entry))) ⌝ }
 {
     if PATH_LIMIT < path.len() {
         return ParsedPath::Invalid;

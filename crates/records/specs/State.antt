@@ -20,8 +20,7 @@ unfoldable pub concluded : {S : Type 0} → S → Checked (Step S) → Step S
 concluded s (refused r) = record { reply = refusedReply (r .status); state = s }
 concluded s (passed next) = next
 
--- an answer of the code is a step: the caller sees the same, and the tables are the same
-pub record Answers (a : Answer) (s : Step Tables) : Type 0 where
+-- an answer of the code is a step: the caller sees the same, and the state after it is the same
+pub record Answers {S : Type 0} (a : Answer) (after : S) (s : Step S) : Type 0 where
   pub reply : seen (record { outcome = a .outcome; granted = a .granted }) ≡ seen (s .reply)
-  pub volume : a .volume ≡ s .state .volume
-  pub opens : a .opens ≡ s .state .opens
+  pub state : after ≡ s .state

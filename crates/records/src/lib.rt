@@ -133,10 +133,8 @@ pub enum Outcome {
     Refused(Status),
 }
 
-// A call's answer: its outcome, the access granted, and the tables after it.
+// A call's answer: its outcome, and the access granted.
 pub struct Answer {
     pub outcome: Outcome,
     pub granted: u32,
-    pub volume: Volume,
-    pub opens: OpenTable,
 }

@@ -22,7 +22,7 @@ ghost use Rattle.little_endian.specs.Writes.{Wrote};
 ghost use Rattle.layout.specs.Records.{openCodec};
 ghost use Rattle.layout.specs.Layout.{openSize, tablesSize, decode, Changed};
 ghost use Rattle.layout.specs.Puts.{putOpen};
-ghost use Rattle.open_table.specs.Rows.{rowAt};
+ghost use Rattle.tables.specs.Tables.{rowAt};
 
 fn open_from(b: &[u8], at: usize) -> Open
     requires { ⌜ at + openSize ≤ length (now b) ⌝ }

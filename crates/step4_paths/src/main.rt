@@ -11,34 +11,42 @@ use libc::STDIN_FILENO;
 use libc::STDOUT_FILENO;
 use paths::ParsedPath;
 ghost use mathlib.Core.Path.{_≡_};
-ghost use lib.ListN.{length};
+ghost use mathlib.Core.Bool.{cond};
+ghost use mathlib.Core.List.{_++_};
+ghost use Prim.Native.Nat.{_≤_, _%_};
+ghost use lib.Dec.{eqb};
+ghost use lib.ListN.{length, getD, drop};
+ghost use Rattle.components.specs.Positions.{placeOf};
 
 const LINE_LIMIT: usize = 1024;
 
-const LINE_END: u16 = 0x0A;
+const LINE_END: u8 = 0x0A;
 
 const SPACE: u16 = 0x20;
 
-fn unit_of(byte: u8) -> u16 {
+fn unit_of(byte: u8) -> u16
+    ensures { λ r. ⌜ r ≡ byte ⌝ }
+{
     byte as u16
 }
 
 // The byte that a unit came from.
-fn byte_of(unit: u16) -> u8 {
+fn byte_of(unit: u16) -> u8
+    ensures { λ r. ⌜ r ≡ unit % 256 ⌝ }
+{
     (unit % 256) as u8
 }
 
-// The bytes as units.
-fn units_of(bytes: [u8; 65536]) -> [u16; 65536]
-    ensures { λ r. ⌜ 65536 ≡ length r ⌝ }
+// The bytes as units, from the buffer's start on.
+fn write_units(bytes: &[u8], units: &mut [u16])
+    requires { ⌜ length (now bytes) ≤ length (now units) ⌝ }
+    ensures { λ _. ⌜ now (units .exit) ≡ now (bytes .entry) ++ drop (length (now (bytes .entry))) (now (units .entry)) ⌝ }
 {
-    let mut units = [0u16; 65536];
     let mut i = 0;
-    while i < 65536 {
+    while i < bytes.len() {
         units[i] = unit_of(bytes[i]);
         i += 1;
     }
-    units
 }
 
 fn say(text: &[u8]) {
@@ -110,17 +118,25 @@ fn answer_path(path: &[u16], wants_directory: bool, wants_file: bool) {
     }
 }
 
-// A line's letter, or 0 where a space does not follow it or the line is too long.
-fn kind_of(line: &[u16]) -> u8 {
-    if line.len() < 2 || LINE_LIMIT < line.len() || line[1] != SPACE {
-        return 0;
+// A line's letter, or 0 where a space does not follow it.
+fn kind_of(line: &[u8]) -> u8
+    ensures { λ r. ⌜ r ≡ cond (eqb (getD (now (line .entry)) 1 0) 0x20) (getD (now (line .entry)) 0 0) 0 ⌝ }
+{
+    if 1 < line.len() && line[1] == b' ' {
+        return line[0];
     }
-    byte_of(line[0])
+    0
 }
 
-fn answer_line(line: &[u16]) {
+// The line's units are written to the buffer; a line that it does not hold is too long.
+fn answer_line(line: &[u8], units: &mut [u16]) {
     let end = line.len();
-    let text = part_of(line, Part { start: 2, end });
+    if units.len() < end {
+        say_byte(b'?');
+        return;
+    }
+    write_units(line, units);
+    let text = part_of(units, Part { start: 2, end });
     let kind = kind_of(line);
     match kind {
         b'n' => answer_name(text),
@@ -130,12 +146,26 @@ fn answer_line(line: &[u16]) {
     }
 }
 
+// Where the line ends that starts at `at`.
+fn line_end(input: &[u8], at: usize) -> usize
+    ensures { λ r. ⌜ r ≡ placeOf 0x0A (now (input .entry)) at ⌝ }
+{
+    let mut i = at;
+    while i < input.len() {
+        if input[i] == LINE_END {
+            return i;
+        }
+        i += 1;
+    }
+    i
+}
+
 // The lines in order; the last one may lack its line end.
-fn answer_lines(input: &[u16]) {
+fn answer_lines(input: &[u8], units: &mut [u16]) {
     let mut at = 0;
     while at < input.len() {
-        let end = find_sign(input, LINE_END, at);
-        answer_line(part_of(input, Part { start: at, end }));
+        let end = line_end(input, at);
+        answer_line(&input[at..end], units);
         say_byte(b'\n');
         at = end + 1;
     }
@@ -144,6 +174,6 @@ fn answer_lines(input: &[u16]) {
 fn main() {
     let mut input = io::large_buffer();
     let count = io::read_full(STDIN_FILENO, &mut input);
-    let units = units_of(input);
-    answer_lines(units_before(&units, count));
+    let mut units = [0u16; LINE_LIMIT];
+    answer_lines(&input[..count], &mut units);
 }

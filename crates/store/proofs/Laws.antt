@@ -2,8 +2,9 @@
 -- consistent and is answered as the model of those tables would answer it.
 use Rattle.base.{specs.Base.{_≤_, suc, ℕ, count, Checked, _>>=_, passed, refused, namespace, Step, Tables, concluded, CreateAction, Handle, Done, Refused, Success, Outcome, FileCorruptError, InvalidParameter, Status, Bool, List, _⊎_, inl, inr, _≡_}, proofs.Laws.{perm-refl, Ends, ends-test, goes, stops, went, refl, arith}}
 use Prim.Native.Nat.{pred}
-use Rattle.consistency.specs.{Consistent.Consistent, Relations.live}
+use Rattle.consistency.specs.Consistent.{Consistent}
 use Rattle.format.specs.Format.{checkedMasks, format}
+use Rattle.tables.specs.Tables.{live}
 use Rattle.store.proofs.Sequences.{Steps.together, Views.Related}
 use Rattle.store.specs.{Calls.{Call, closes, modelStep, opens, setsReadOnly, storeStep}, Complete.nextHandle, Model.Model, Store.{closed, opened, storeClose, storeOpen, storeSetReadOnly, whenConsistent}}
 

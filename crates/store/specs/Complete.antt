@@ -1,7 +1,8 @@
 -- The sharing check, step 10's share-read rule and step 12: whether a pending open is accepted, and what it changes. And
 -- what a close does.
 -- The object store and the model share this text; each answers the questions about its opens in its own way.
-use Rattle.base.specs.Base.{ℕ, suc, Bool, cond, not, List, [], _∷_, Option, none, some, bitOr, eqb, firstFree, isEmpty, padded, writes, fileNameLimit, streamNameLimit, lastHandle, shareRead, fileUsed, linkUsed, Terms, Namespace, BareStream, bareUsed, Checked, passed, _>>=_, _>>_, refuseIf, someOr, AccessDenied, SharingViolation, DiskFull, TooManyOpenedFiles, InsufficientResources, InvalidHandle, Reply, Success, CreateAction, Created, FileType, Data, FileNo, LinkNo, StreamNo, Handle, File, Link, Open, Request}
+use Rattle.base.specs.Base.{ℕ, suc, Bool, cond, not, List, [], _∷_, Option, none, some, bitOr, eqb, isEmpty, padded, writes, fileNameLimit, streamNameLimit, lastHandle, shareRead, Terms, Namespace, BareStream, Checked, passed, _>>=_, _>>_, refuseIf, someOr, AccessDenied, SharingViolation, TooManyOpenedFiles, InsufficientResources, InvalidHandle, Reply, Success, CreateAction, Created, FileType, Data, FileNo, LinkNo, StreamNo, Handle, File, Link, Open, Request}
+use Rattle.free_slots.specs.Free.{freeFile, freeLink, freeStream}
 use Rattle.tables.specs.Tables.{fileAt}
 use Rattle.store.specs.Prepare.{ReadSharing, asOffered, addedIfAlone, deniedIfAlone, Existing, Creation, newStream, newFile, Pending, existing, creating, prepare}
 
@@ -68,16 +69,6 @@ unfoldable pub shareOf : ReadSharing → Bool → Terms → Checked Terms
 shareOf asOffered alone t = passed t
 shareOf addedIfAlone alone t = passed (cond alone (withShareRead t) t)
 shareOf deniedIfAlone alone t = refuseIf alone AccessDenied >> passed t
-
--- step 12, DISK_FULL: the lowest free slots, from a number on
-unfoldable pub freeFile : Namespace → Checked FileNo
-freeFile ns = someOr DiskFull (firstFree fileUsed 0 (ns .files)) >>= (λ n. passed (record { 0 = n }))
-
-unfoldable pub freeLink : Namespace → Checked LinkNo
-freeLink ns = someOr DiskFull (firstFree linkUsed 0 (ns .links)) >>= (λ n. passed (record { 0 = n }))
-
-unfoldable pub freeStream : Namespace → ℕ → Checked StreamNo
-freeStream ns n = someOr DiskFull (firstFree bareUsed n (ns .streams)) >>= (λ m. passed (record { 0 = m }))
 
 -- the records that an open adds, at their slots
 unfoldable pub withAttributes : ℕ → File → File

@@ -5,6 +5,7 @@ use Rattle.bits.specs.Evaluate.{computes as bits}
 use Rattle.components.specs.Evaluate.{computes as components}
 use Rattle.consistency.specs.Evaluate.{computes as consistency}
 use Rattle.format.specs.{Evaluate.computes as format, Format.freshTables}
+use Rattle.free_slots.specs.Evaluate.{computes as freeSlots}
 use Rattle.lists.specs.Evaluate.{computes as lists}
 use Rattle.lookup.specs.Evaluate.{computes as lookup}
 use Rattle.names.specs.Evaluate.{computes as names}
@@ -16,18 +17,18 @@ use Rattle.stored_names.specs.Evaluate.{computes as storedNames}
 use Rattle.stream_lookup.specs.Evaluate.{computes as streamLookup}
 use Rattle.tables.specs.Evaluate.{computes as tables}
 use Rattle.units.specs.Evaluate.{computes as units}
-use Rattle.store.specs.{Request.{wantsDirectory, wantsFile, badParameters, badAccess, wantsBoth, writesVolume}, Target.{targetNew, wrongType, targetDirectory, targetData, targetFound, targetAt, target}, Prepare.{grant, grantedNew, newType, attributesNew, fileNew, admitFile, readSharingOf, admitOpen, hiddenOrSystem, gained, replacing, replacement, admitReplace, admitStream, admit, prepare}, Complete.{changed, withShareRead, shareOf, freeFile, freeLink, freeStream, withAttributes, streamNew, linkNew, placeFile, placeStreams, place, nextHandle, attributeChange, placeExisting, complete, decide, decideClose}, Store.{hasHandle, storeView, writeStreams, changedVolume, recount, stored, rowsWithOpen, volumeWithOpen, opened, rowsWithoutOpen, volumeWithoutOpen, closed, volumeMarked, whenConsistent, storeOpen, storeClose, storeSetReadOnly}, Model.{Model, freshModel, modelFormat, modelView, modelOpened, modelOpen, modelClosed, modelClose, namespaceMarked, modelSetReadOnly}, Calls.{Call, Run, storeStep, modelStep, run}}
+use Rattle.store.specs.{Request.{wantsDirectory, wantsFile, badParameters, badAccess, wantsBoth, writesVolume}, Target.{targetNew, wrongType, targetDirectory, targetData, targetFound, targetAt, target}, Prepare.{grant, grantedNew, newType, attributesNew, fileNew, admitFile, readSharingOf, admitOpen, hiddenOrSystem, gained, replacing, replacement, admitReplace, admitStream, admit, prepare}, Complete.{changed, withShareRead, shareOf, withAttributes, streamNew, linkNew, placeFile, placeStreams, place, nextHandle, attributeChange, placeExisting, complete, decide, decideClose}, Store.{hasHandle, storeView, writeStreams, changedVolume, recount, stored, rowsWithOpen, volumeWithOpen, opened, rowsWithoutOpen, volumeWithoutOpen, closed, volumeMarked, whenConsistent, storeOpen, storeClose, storeSetReadOnly}, Model.{Model, freshModel, modelFormat, modelView, modelOpened, modelOpen, modelClosed, modelClose, namespaceMarked, modelSetReadOnly}, Calls.{Call, Run, storeStep, modelStep, run}}
 
 unfoldable pub computes : Unit {0}
-unfolding bits lists records tables openTable units names storedNames components paths lookup streamLookup access
-    sharing consistency format wantsDirectory wantsFile badParameters badAccess wantsBoth writesVolume targetNew
-    wrongType targetDirectory targetData targetFound targetAt target grant grantedNew newType attributesNew fileNew
-    admitFile readSharingOf admitOpen hiddenOrSystem gained replacing replacement admitReplace admitStream admit
-    prepare changed withShareRead shareOf freeFile freeLink freeStream withAttributes streamNew linkNew placeFile
-    placeStreams place nextHandle attributeChange placeExisting complete decide decideClose hasHandle storeView
-    writeStreams changedVolume recount stored rowsWithOpen volumeWithOpen opened rowsWithoutOpen volumeWithoutOpen
-    closed volumeMarked whenConsistent storeOpen storeClose storeSetReadOnly freshModel modelFormat modelView
-    modelOpened modelOpen modelClosed modelClose namespaceMarked modelSetReadOnly storeStep modelStep run
+unfolding bits lists records tables openTable freeSlots units names storedNames components paths lookup streamLookup
+    access sharing consistency format wantsDirectory wantsFile badParameters badAccess wantsBoth writesVolume
+    targetNew wrongType targetDirectory targetData targetFound targetAt target grant grantedNew newType
+    attributesNew fileNew admitFile readSharingOf admitOpen hiddenOrSystem gained replacing replacement admitReplace
+    admitStream admit prepare changed withShareRead shareOf withAttributes streamNew linkNew placeFile placeStreams
+    place nextHandle attributeChange placeExisting complete decide decideClose hasHandle storeView writeStreams
+    changedVolume recount stored rowsWithOpen volumeWithOpen opened rowsWithoutOpen volumeWithoutOpen closed
+    volumeMarked whenConsistent storeOpen storeClose storeSetReadOnly freshModel modelFormat modelView modelOpened
+    modelOpen modelClosed modelClose namespaceMarked modelSetReadOnly storeStep modelStep run
 computes = tt
 
 unfoldable pub storeRun : List ℕ → Bool → List Call → Run Tables

@@ -1,9 +1,9 @@
 -- Demand 3: the statement about every sequence of calls from a freshly formatted volume.
 use Rattle.base.specs.Base.{ℕ, zero, suc, _<_, _≡_, Bool, true, false, not, List, [], _∷_, _↔_, eqb, length, any, pairs, Permutation, Reply, seen, statusNumber, Tables, namespace, passed, FileCorruptError, SharingViolation, Outcome, Success, Done, Refused, StreamNo, Request}
-use Rattle.consistency.specs.{Relations.live, Consistent.Consistent, Good.opensAgree}
+use Rattle.consistency.specs.{Consistent.Consistent, Good.opensAgree}
 use Rattle.format.specs.Format.{format}
 use Rattle.sharing.specs.Sharing.{anyConflict, countsOf, shareCheck}
-use Rattle.tables.specs.Tables.{streamAt}
+use Rattle.tables.specs.Tables.{streamAt, live}
 use Rattle.store.specs.{Prepare.{Existing, existing, prepare}, Store.storeOpen, Model.{Model, modelFormat}, Calls.{Call, Run, run, storeStep, modelStep}}
 
 -- the reply that the tables contradict themselves

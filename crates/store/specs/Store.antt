@@ -1,8 +1,8 @@
 -- The object store (the paper's desk): open, close and set_read_only on the tables. A refusal leaves every table as it
 -- was.
-use Rattle.base.specs.Base.{ℕ, suc, Bool, not, _&&_, List, [], _∷_, Option, none, some, eqb, set, any, find, first, firstFree, writes, zeroOpen, openUsed, BareStream, bare, withCounts, namespace, Checked, passed, _>>=_, _>>_, refuseIf, Tables, Step, done, concluded, FileCorruptError, StreamNo, Handle, ShareCounts, Stream, Open, Volume, Request}
-use Rattle.consistency.specs.{Relations.live, Test.consistent}
-use Rattle.open_table.specs.Rows.{anyOnFile}
+use Rattle.base.specs.Base.{ℕ, suc, Bool, not, _&&_, List, [], _∷_, Option, none, some, eqb, set, any, find, first, writes, zeroOpen, openUsed, BareStream, bare, withCounts, namespace, Checked, passed, _>>=_, _>>_, refuseIf, Tables, Step, done, concluded, FileCorruptError, StreamNo, Handle, ShareCounts, Stream, Open, Volume, Request}
+use Rattle.consistency.specs.Test.{consistent}
+use Rattle.open_table.specs.Rows.{freeRow, fileHasOpen}
 use Rattle.sharing.specs.Sharing.{shareCheck, withOpen, withoutOpen}
 use Rattle.tables.specs.Tables.{streamAt}
 use Rattle.store.specs.Complete.{View, Change, Decision, newOpen, openReply, decide, Closing, decideClose}
@@ -16,7 +16,7 @@ unfoldable pub storeView : Tables → View
 storeView t =
     record {
       conflicts = λ s terms. shareCheck (streamAt (t .volume .streams) s .counts) terms;
-      fileOpen = λ f. anyOnFile f (live (t .opens .rows));
+      fileOpen = fileHasOpen (t .opens .rows);
       openOf = λ h. find (hasHandle h) (t .opens .rows);
       room = any (λ o. not (openUsed o)) (t .opens .rows);
       next = t .volume .«next_handle» .0;
@@ -48,7 +48,7 @@ stored o (some i) os = set os i o
 
 -- the open takes the lowest free slot and joins its stream's share counts, and the next handle rises by one
 unfoldable pub rowsWithOpen : Open → List Open → List Open
-rowsWithOpen o os = stored o (firstFree openUsed 0 os) os
+rowsWithOpen o os = stored o (freeRow os) os
 
 unfoldable pub volumeWithOpen : Open → Volume → Volume
 volumeWithOpen o v =

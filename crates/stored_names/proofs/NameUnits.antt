@@ -1,5 +1,5 @@
 -- Laws of stored names: their units by places.
-use Rattle.base.{specs.Base.{ℕ, zero, suc, _+_, _≤_, _<_, _≡_, Bool, false, List, [], _∷_, isEmpty, eqb, length, getD, drop, same}, proofs.Laws.{refl, sym, ap, _∙_, by-cases, drop-of-length-le, eqb-true, eqb-false, eq-eqb, ne-eqb, drop-next, empty-is, same-differs, same-tail}}
+use Rattle.base.{specs.Base.{ℕ, zero, suc, _+_, _≤_, _<_, _≡_, Bool, false, List, [], _∷_, isEmpty, eqb, length, getD, drop, same}, proofs.Laws.{refl, sym, _∙_, by-cases, drop-of-length-le, eqb-true, eqb-false, eq-eqb, ne-eqb, drop-next, empty-is, same-differs, same-tail}}
 use lib.Dec.{eqb·suc-zero}
 use native.Mathlib.Numerals.{add-one}
 use Rattle.units.{specs.Units.{folded, equalUnits}, proofs.Compare.{equal-tail, equal-differs}}

@@ -2,7 +2,7 @@
 use Rattle.base.{specs.Base.{_-_, _≡_, getD, drop, all, keep, openSlots, openUsed, zeroOpen}, proofs.Laws.{refl, sym, _∙_, ⊎-elim, arith, needs, not-both, all-kept-fails, all-kept-past, all-kept-end}}
 use Rattle.consistency.specs.Good.{opensAgree}
 use Rattle.layout.{specs.Layout.decode, proofs.Lengths.opens-count}
-use Rattle.open_table.specs.Rows.{rowAt}
+use Rattle.tables.specs.Tables.{rowAt}
 use Rattle.audit_conflicts.proofs.{Agree.{agree-apart, agree-unless, disagree}, agrees_from.Statement.statement}
 use Rattle.audit_conflicts.proofs.agrees_from.Tie as tie
 

@@ -1,8 +1,8 @@
 -- `audit_conflicts::no_conflicts` meets its contract. The invariant: what is asked is what the rows from i on say.
 use Rattle.base.{specs.Base.{_-_, _≡_, drop, keep, pairs, openSlots, openUsed, zeroOpen}, proofs.Laws.{refl, sym, _∙_, ⊎-elim, arith, needs, not-both, not-true, not-false, pairs-kept-past, pairs-kept-fails, pairs-kept-end}}
-use Rattle.consistency.specs.{Good.opensAgree, Relations.live, Test.conflictsTest}
+use Rattle.consistency.specs.{Good.opensAgree, Test.conflictsTest}
 use Rattle.layout.{specs.Layout.decode, proofs.Lengths.opens-count}
-use Rattle.open_table.specs.Rows.{rowAt}
+use Rattle.tables.specs.Tables.{rowAt, live}
 use Rattle.audit_conflicts.proofs.no_conflicts.Statement.{statement}
 use Rattle.audit_conflicts.proofs.no_conflicts.Tie as tie
 

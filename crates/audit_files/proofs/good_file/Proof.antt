@@ -5,20 +5,11 @@ use Rattle.consistency.specs.Good.{goodFile}
 use Rattle.audit_files.proofs.good_file.Statement.{statement}
 use Rattle.audit_files.proofs.good_file.Tie as tie
 
-within-requires : tie.Need-within-requires
-within-requires c κs = search needs
-
 returns : tie.Need-returns
 unfolding goodFile
 returns c =
     let w = c .before in
     rw (← w .within .ensures, not-true (w .within .result) (c .if1 .taken))
-
-has-requires : tie.Need-has-requires
-has-requires c κs = search needs
-
-is-directory-requires : tie.Need-is-directory-requires
-is-directory-requires c κs = search needs
 
 returns-2 : tie.Need-returns-2
 unfolding goodFile
@@ -34,13 +25,10 @@ returns-2 c =
       not-true (Bool·beq (h .has .result) (d .is-directory .result)) (c .if2 .taken),
     )
 
-valid-masks-requires : tie.Need-valid-masks-requires
-valid-masks-requires c κs = search needs
-
 returns-3 : tie.Need-returns-3
 unfolding goodFile
 returns-3 c =
-    let d = c .before .before .before in
+    let d = c .before .before .before .before in
     let h = d .before in
     let w = h .before .before in
     rw (
@@ -48,7 +36,7 @@ returns-3 c =
       not-false (w .within .result) (h .before .if1 .left),
       ← h .has .ensures,
       ← d .is-directory .ensures,
-      not-false (Bool·beq (h .has .result) (d .is-directory .result)) (c .before .before .if2 .left),
+      not-false (Bool·beq (h .has .result) (d .is-directory .result)) (c .before .before .before .if2 .left),
     )
     (c .valid-masks .ensures)
 
@@ -56,10 +44,11 @@ pub good-file-spec : {M : Type 1} → statement M
 good-file-spec =
     tie.close
     (tie.spec
-    within-requires
+    (λ c κs. search needs)
     returns
-    has-requires
-    is-directory-requires
+    (λ c κs. search needs)
+    (λ c κs. search needs)
     returns-2
-    valid-masks-requires
+    (λ c. search needs)
+    (λ c κs. search needs)
     returns-3)

@@ -4,14 +4,11 @@ use Rattle.consistency.specs.Good.{isZeroFile}
 use Rattle.audit_files.proofs.is_zero_file.Statement.{statement}
 use Rattle.audit_files.proofs.is_zero_file.Tie as tie
 
-zero-masks-requires : tie.Need-zero-masks-requires
-zero-masks-requires c κs = search needs
-
 returns : tie.Need-returns
 unfolding isZeroFile
 returns c =
-    let a = c .before .before .before .before .args in
-    rw (eq-eqb (a .f .attributes) 0 (c .before .if1 .taken)) (c .zero-masks .ensures)
+    let a = c .before .before .before .before .before .args in
+    rw (eq-eqb (a .f .attributes) 0 (c .before .before .if1 .taken)) (c .zero-masks .ensures)
 
 returns-2 : tie.Need-returns-2
 unfolding isZeroFile
@@ -20,4 +17,4 @@ returns-2 c =
     rw (ne-eqb (a .f .attributes) 0 (c .if1 .left))
 
 pub is-zero-file-spec : {M : Type 1} → statement M
-is-zero-file-spec = tie.close (tie.spec zero-masks-requires returns returns-2)
+is-zero-file-spec = tie.close (tie.spec (λ c. search needs) (λ c κs. search needs) returns returns-2)

@@ -1,48 +1,25 @@
--- `components::find_sign` meets its contract. The loop's invariant: the place sought is the first that fails from i on.
-use Rattle.base.{specs.Base.{_+_, _-_, not, _≡_, length, drop}, proofs.Laws.{refl, sym, ap, _∙_, arith, needs, eq-eqb, ne-eqb}}
-use Rattle.components.proofs.{Leading.{from-next, from-stops, from-end}, find_sign.Statement.statement}
-use Rattle.components.specs.Positions.{leading, noSign, placeOf}
+-- `components::find_sign` meets its contract. The loop's invariant: the place sought is not before i.
+use Rattle.base.{specs.Base.{_-_, not, length}, proofs.Laws.{refl, ap, arith, needs, eq-eqb, ne-eqb}}
+use Rattle.components.proofs.{Leading.{Seeking, seek-next, seek-stops, seek-end}, find_sign.Statement.statement}
+use Rattle.components.specs.Positions.{noSign, placeOf}
 use Rattle.components.proofs.find_sign.Tie as tie
 
 abbrev Inv-loop : tie.InvT-loop
-Inv-loop units sign at i₀ i = placeOf sign units at ≡ i + leading (noSign sign) (drop i units)
+Inv-loop units sign at i₀ i = Seeking (noSign sign) units at i
 
 abbrev μ-loop : tie.MeasureT-loop
 μ-loop units sign at i₀ i = length units - i
 
-loop-holds : tie.Need-loop-holds Inv-loop μ-loop
-unfolding placeOf
-loop-holds c = refl
-
-mul-if1 : tie.Need-mul-if1 Inv-loop μ-loop
-mul-if1 c = search needs
-
-shared-slice-read-if1 : tie.Need-shared-slice-read-if1 Inv-loop μ-loop
-shared-slice-read-if1 c = search needs
-
 returns : tie.Need-returns Inv-loop μ-loop
-returns c =
-    let l = c .before .before .before in
-    let s = l .before .args in
-    sym (l .loop .inv ∙ from-stops (noSign (s .sign)) (s .units .now) (l .loop .i) 0 (omega arith) (ap not (eq-eqb _ (s .sign) (c .if1 .taken))))
-
-add-i : tie.Need-add-i Inv-loop μ-loop
-add-i c = search needs
-
-loop-less : tie.Need-loop-less Inv-loop μ-loop
-loop-less c = search needs
+unfolding placeOf
+returns c = seek-stops (c .before .before .before .loop .inv) (omega arith) (ap not (eq-eqb _ _ (c .if1 .taken)))
 
 loop-again : tie.Need-loop-again Inv-loop μ-loop
-loop-again c =
-    let l = c .before .before .before in
-    let s = l .before .args in
-    l .loop .inv ∙ from-next (noSign (s .sign)) (s .units .now) (l .loop .i) 0 (omega arith) (ap not (ne-eqb _ (s .sign) (c .if1 .left)))
+loop-again c = seek-next (c .before .before .before .loop .inv) (omega arith) (ap not (ne-eqb _ _ (c .if1 .left)))
 
 returns-2 : tie.Need-returns-2 Inv-loop μ-loop
-returns-2 c =
-    let l = c .before in
-    let s = l .before .args in
-    sym (l .loop .inv ∙ from-end (noSign (s .sign)) (s .units .now) (l .loop .i) (c .loop-test .left))
+unfolding placeOf
+returns-2 c = seek-end (c .before .loop .inv) (c .loop-test .left)
 
 pub find-sign-spec : {M : Type 1} → statement M
 find-sign-spec =
@@ -50,11 +27,11 @@ find-sign-spec =
     (tie.spec
     Inv-loop
     μ-loop
-    loop-holds
-    mul-if1
-    shared-slice-read-if1
+    (λ c. record { left = refl })
+    (λ c. search needs)
+    (λ c. search needs)
     returns
-    add-i
-    loop-less
+    (λ c. search needs)
+    (λ c. search needs)
     loop-again
     returns-2)

@@ -5,12 +5,6 @@ use Rattle.components.proofs.next_component.Statement.{statement}
 use Rattle.components.specs.{Positions.{placeOf, nextComponent}, declared.Part.Part}
 use Rattle.components.proofs.next_component.Tie as tie
 
-skip-sign-requires : tie.Need-skip-sign-requires
-skip-sign-requires c κs = search needs
-
-find-sign-requires : tie.Need-find-sign-requires
-find-sign-requires c κs = search needs
-
 returns : tie.Need-returns
 unfolding nextComponent
 returns c =
@@ -21,4 +15,4 @@ returns c =
     ap to (c .find-sign .ensures) ∙ ap from (start .ensures)
 
 pub next-component-spec : {M : Type 1} → statement M
-next-component-spec = tie.close (tie.spec skip-sign-requires find-sign-requires returns)
+next-component-spec = tie.close (tie.spec (λ c κs. search needs) (λ c κs. search needs) returns)

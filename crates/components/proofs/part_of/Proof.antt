@@ -4,24 +4,6 @@ use Rattle.components.proofs.part_of.Statement.{statement}
 use Rattle.components.specs.Positions.{partOf}
 use Rattle.components.proofs.part_of.Tie as tie
 
-units-before-requires : tie.Need-units-before-requires
-units-before-requires c κs = search needs
-
-mul-result : tie.Need-mul-result
-mul-result c = search needs
-
-sub-result : tie.Need-sub-result
-sub-result c = search needs
-
-part-result-start : tie.Need-part-result-start
-part-result-start c = search needs
-
-part-result-end : tie.Need-part-result-end
-part-result-end c = search needs
-
-slice-aggregate-result : tie.Need-slice-aggregate-result
-slice-aggregate-result c = search needs
-
 returns : tie.Need-returns
 unfolding partOf
 returns c =
@@ -40,11 +22,11 @@ pub part-of-spec : {M : Type 1} → statement M
 part-of-spec =
     tie.close
     (tie.spec
-    units-before-requires
-    mul-result
-    sub-result
-    part-result-start
-    part-result-end
-    slice-aggregate-result
+    (λ c κs. search needs)
+    (λ c. search needs)
+    (λ c. search needs)
+    (λ c. search needs)
+    (λ c. search needs)
+    (λ c. search needs)
     returns
     returns-2)

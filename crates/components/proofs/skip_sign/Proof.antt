@@ -1,48 +1,25 @@
--- `components::skip_sign` meets its contract. The loop's invariant: the place sought is the first that fails from i on.
-use Rattle.base.{specs.Base.{_+_, _-_, _≡_, length, drop}, proofs.Laws.{refl, sym, _∙_, arith, needs, eq-eqb, ne-eqb}}
-use Rattle.components.proofs.{Leading.{from-next, from-stops, from-end}, skip_sign.Statement.statement}
-use Rattle.components.specs.Positions.{leading, isSign, placeAfter}
+-- `components::skip_sign` meets its contract. The loop's invariant: the place sought is not before i.
+use Rattle.base.{specs.Base.{_-_, length}, proofs.Laws.{refl, arith, needs, eq-eqb, ne-eqb}}
+use Rattle.components.proofs.{Leading.{Seeking, seek-next, seek-stops, seek-end}, skip_sign.Statement.statement}
+use Rattle.components.specs.Positions.{isSign, placeAfter}
 use Rattle.components.proofs.skip_sign.Tie as tie
 
 abbrev Inv-loop : tie.InvT-loop
-Inv-loop units sign at i₀ i = placeAfter sign units at ≡ i + leading (isSign sign) (drop i units)
+Inv-loop units sign at i₀ i = Seeking (isSign sign) units at i
 
 abbrev μ-loop : tie.MeasureT-loop
 μ-loop units sign at i₀ i = length units - i
 
-loop-holds : tie.Need-loop-holds Inv-loop μ-loop
-unfolding placeAfter
-loop-holds c = refl
-
-mul-if1 : tie.Need-mul-if1 Inv-loop μ-loop
-mul-if1 c = search needs
-
-shared-slice-read-if1 : tie.Need-shared-slice-read-if1 Inv-loop μ-loop
-shared-slice-read-if1 c = search needs
-
 returns : tie.Need-returns Inv-loop μ-loop
-returns c =
-    let l = c .before .before .before in
-    let s = l .before .args in
-    sym (l .loop .inv ∙ from-stops (isSign (s .sign)) (s .units .now) (l .loop .i) 0 (omega arith) (ne-eqb _ (s .sign) (c .if1 .taken)))
-
-add-i : tie.Need-add-i Inv-loop μ-loop
-add-i c = search needs
-
-loop-less : tie.Need-loop-less Inv-loop μ-loop
-loop-less c = search needs
+unfolding placeAfter
+returns c = seek-stops (c .before .before .before .loop .inv) (omega arith) (ne-eqb _ _ (c .if1 .taken))
 
 loop-again : tie.Need-loop-again Inv-loop μ-loop
-loop-again c =
-    let l = c .before .before .before in
-    let s = l .before .args in
-    l .loop .inv ∙ from-next (isSign (s .sign)) (s .units .now) (l .loop .i) 0 (omega arith) (eq-eqb _ (s .sign) (c .if1 .left))
+loop-again c = seek-next (c .before .before .before .loop .inv) (omega arith) (eq-eqb _ _ (c .if1 .left))
 
 returns-2 : tie.Need-returns-2 Inv-loop μ-loop
-returns-2 c =
-    let l = c .before in
-    let s = l .before .args in
-    sym (l .loop .inv ∙ from-end (isSign (s .sign)) (s .units .now) (l .loop .i) (c .loop-test .left))
+unfolding placeAfter
+returns-2 c = seek-end (c .before .loop .inv) (c .loop-test .left)
 
 pub skip-sign-spec : {M : Type 1} → statement M
 skip-sign-spec =
@@ -50,11 +27,11 @@ skip-sign-spec =
     (tie.spec
     Inv-loop
     μ-loop
-    loop-holds
-    mul-if1
-    shared-slice-read-if1
+    (λ c. record { left = refl })
+    (λ c. search needs)
+    (λ c. search needs)
     returns
-    add-i
-    loop-less
+    (λ c. search needs)
+    (λ c. search needs)
     loop-again
     returns-2)

@@ -1,44 +1,48 @@
--- `format::format` meets its contract: the lengths are right, so the masks decide.
-use Rattle.base.{proofs.Laws.{needs, not-true, not-false, refl}, specs.Base.{refuseIf, _>>_, concluded}}
-use Rattle.format.proofs.{RightLengths.right-lengths, format.Statement.statement}
-use Rattle.format.specs.Format.{format, freshTables, checkedMasks}
+-- `format::format` meets its contract: the length decides, then the masks, and then the bytes are those of fresh tables.
+use Rattle.base.{specs.Base.{ℕ, List}, proofs.Laws.{refl, sym, _∙_, ap, arith, needs, not-true, not-false}}
+use Rattle.layout.specs.Layout.{encode}
+use Rattle.format.proofs.{Bytes.{valid-count, other-length, invalid-masks, formatted}, format.Statement.statement}
+use Rattle.format.specs.Format.{freshTables}
 use Rattle.format.proofs.format.Tie as tie
 
-valid-masks-requires : tie.Need-valid-masks-requires
-valid-masks-requires c κs = search needs
-
 returns : tie.Need-returns
-unfolding format freshTables checkedMasks concluded refuseIf _>>_
 returns c =
-    let m = c .before in
-    let a = m .before in
-    rw (
-      right-lengths (a .args .v) _ (a .good .0) (a .args .t) _ (a .good .1 .0),
-      ← m .valid-masks .ensures,
-      not-true (m .valid-masks .result) (c .if1 .taken),
-    )
-    (record { reply = refl; volume = refl; opens = refl })
-
-fresh-volume-requires : tie.Need-fresh-volume-requires
-fresh-volume-requires c κs = search needs
-
-fresh-opens-requires : tie.Need-fresh-opens-requires
-fresh-opens-requires c κs = search needs
+    let a = c .before .before .before .args in
+    rw (other-length (a .b .now) (a .masks .now) (a .read-only) (λ e. omega arith)) (record { reply = refl; state = refl })
 
 returns-2 : tie.Need-returns-2
-unfolding format freshTables checkedMasks concluded refuseIf _>>_
 returns-2 c =
-    let v = c .before in
-    let m = v .before .before in
-    let a = m .before in
-    rw (
-      right-lengths (a .args .v) _ (a .good .0) (a .args .t) _ (a .good .1 .0),
-      ← m .valid-masks .ensures,
-      not-false (m .valid-masks .result) (v .before .if1 .left),
-    )
-    (record { reply = refl; volume = v .fresh-volume .ensures; opens = c .fresh-opens .ensures })
+    let m = c .before in
+    let a = m .before .before .before .before .args in
+    rw (invalid-masks (a .b .now) (a .masks .now) (a .read-only) (omega arith)
+    (sym (m .valid-masks .ensures) ∙ not-true _ (c .if2 .taken)))
+    (record { reply = refl; state = refl })
+
+copied-requires : tie.Need-copied-requires
+copied-requires c κs =
+    let m = c .before .before in
+    valid-count _ (sym (m .valid-masks .ensures) ∙ not-false _ (c .before .if2 .left))
+
+returns-3 : tie.Need-returns-3
+returns-3 c =
+    let w = c .before .before in
+    let m = w .before .before .before .before in
+    let a = m .before .before .before .before .args in
+    rw (formatted (a .b .now) (a .masks .now) (a .read-only) (omega arith)
+    (sym (m .valid-masks .ensures) ∙ not-false _ (w .before .before .before .if2 .left)))
+    (record {
+      reply = refl;
+      state = w .write-fresh .ensures ∙ ap (λ (ms : List ℕ). encode (freshTables ms (a .read-only))) (w .before .copied .ensures);
+    })
 
 pub format-spec : {M : Type 1} → statement M
 format-spec =
     tie.close
-    (tie.spec valid-masks-requires returns fresh-volume-requires fresh-opens-requires returns-2)
+    (tie.spec
+    returns
+    (λ c κs. search needs)
+    returns-2
+    copied-requires
+    (λ c κs. search needs)
+    (λ c. search needs)
+    returns-3)

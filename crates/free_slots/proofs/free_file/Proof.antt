@@ -1,65 +1,41 @@
--- `free_slots::free_file` meets its contract. The invariant: what is sought is what the rest of the table gives.
-use Rattle.base.{specs.Base.{_-_, _≡_, firstAfter, fileSlots, fileUsed, not}, proofs.Laws.{refl, sym, _∙_, ap, arith, needs, answerFrom, answer-here, answer-next, answer-none}}
-use Rattle.records.proofs.Lengths.{files-length}
+-- `free_slots::free_file` meets its contract: a turn of the loop looks at one slot more.
+use Rattle.base.{specs.Base.{_-_, not, fileSlots, fileUsed, isUsed, zeroFile, namespace, someOr, _>>=_}, proofs.Laws.{arith, needs, Searching, searching-begins, searching-finds, searching-turns, searching-ends}}
+use Rattle.layout.{specs.Layout.decode, proofs.Lengths.files-count}
+use Rattle.tables.specs.Tables.{fileAt}
 use Rattle.free_slots.proofs.free_file.Statement.{statement}
-use Rattle.free_slots.specs.Free.{fileSlot, freeFileSlot}
+use Rattle.free_slots.specs.Free.{freeFile, fileSlot}
 use Rattle.free_slots.proofs.free_file.Tie as tie
 
 abbrev Inv-loop : tie.InvT-loop
-Inv-loop v i₀ i = freeFileSlot v ≡ answerFrom fileSlot (λ x. not (fileUsed x)) (v .files) i
+Inv-loop b i₀ i = Searching (λ f. not (fileUsed f)) (decode b .volume .files) 0 i
 
 abbrev μ-loop : tie.MeasureT-loop
-μ-loop v i₀ i = fileSlots - i
-
-loop-holds : tie.Need-loop-holds Inv-loop μ-loop
-unfolding freeFileSlot firstAfter
-loop-holds c = refl
-
-mul-f : tie.Need-mul-f Inv-loop μ-loop
-mul-f c = search needs
-
-element-copy-out-f : tie.Need-element-copy-out-f Inv-loop μ-loop
-element-copy-out-f c = search needs
-
-file-used-requires : tie.Need-file-used-requires Inv-loop μ-loop
-file-used-requires c κs = search needs
-
-cast-n : tie.Need-cast-n Inv-loop μ-loop
-cast-n c = search needs
+μ-loop b i₀ i = fileSlots - i
 
 returns : tie.Need-returns Inv-loop μ-loop
-unfolding fileSlot
+unfolding fileSlot freeFile namespace someOr _>>=_ fileAt fileUsed
 returns c =
     let u = c .before in
-    let l = u .before .before .before in
-    let h = files-length (l .before .args .t1) _ (l .before .good .0) in
-    sym
-    (l .loop .inv
-    ∙ answer-here fileSlot (λ x. not (fileUsed x)) (l .before .args .t1 .files) (l .loop .i) _ (omega arith)
-    (ap not (u .file-used .ensures)) (c .if1 .taken))
-
-add-i : tie.Need-add-i Inv-loop μ-loop
-add-i c = search needs
-
-loop-less : tie.Need-loop-less Inv-loop μ-loop
-loop-less c = search needs
+    let r = u .before in
+    let l = r .before .before in
+    let n = files-count (l .before .before .args .b .now) in
+    rw (searching-finds (l .loop .inv) zeroFile (omega arith) (rw (← r .read-file-type .ensures, ← u .is-used .ensures) (c .if1 .taken)))
 
 loop-again : tie.Need-loop-again Inv-loop μ-loop
+unfolding fileAt fileUsed
 loop-again c =
     let u = c .before in
-    let l = u .before .before .before in
-    let h = files-length (l .before .args .t1) _ (l .before .good .0) in
-    l .loop .inv
-    ∙ answer-next fileSlot (λ x. not (fileUsed x)) (l .before .args .t1 .files) (l .loop .i) _ (omega arith)
-    (ap not (u .file-used .ensures)) (c .if1 .left)
+    let r = u .before in
+    let l = r .before .before in
+    let n = files-count (l .before .before .args .b .now) in
+    searching-turns (l .loop .inv) zeroFile (omega arith) (rw (← r .read-file-type .ensures, ← u .is-used .ensures) (c .if1 .left))
 
 returns-2 : tie.Need-returns-2 Inv-loop μ-loop
-unfolding fileSlot
+unfolding fileSlot freeFile namespace someOr _>>=_
 returns-2 c =
     let l = c .before in
-    let h = files-length (l .before .args .t1) _ (l .before .good .0) in
-    sym (l .loop .inv ∙ answer-none fileSlot (λ x. not (fileUsed x)) (l .before .args .t1 .files) (l .loop .i)
-    (omega arith))
+    let n = files-count (l .before .before .args .b .now) in
+    rw (searching-ends (l .loop .inv) (omega arith))
 
 pub free-file-spec : {M : Type 1} → statement M
 free-file-spec =
@@ -67,13 +43,12 @@ free-file-spec =
     (tie.spec
     Inv-loop
     μ-loop
-    loop-holds
-    mul-f
-    element-copy-out-f
-    file-used-requires
-    cast-n
+    (λ c. searching-begins)
+    (λ c. search needs)
+    (λ c κs. search needs)
+    (λ c κs. search needs)
     returns
-    add-i
-    loop-less
+    (λ c. search needs)
+    (λ c. search needs)
     loop-again
     returns-2)

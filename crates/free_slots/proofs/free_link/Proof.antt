@@ -1,65 +1,39 @@
--- `free_slots::free_link` meets its contract. The invariant: what is sought is what the rest of the table gives.
-use Rattle.base.{specs.Base.{_-_, _≡_, firstAfter, linkSlots, linkUsed, not}, proofs.Laws.{refl, sym, _∙_, ap, arith, needs, answerFrom, answer-here, answer-next, answer-none}}
-use Rattle.records.proofs.Lengths.{links-length}
+-- `free_slots::free_link` meets its contract: a turn of the loop looks at one slot more.
+use Rattle.base.{specs.Base.{_-_, not, linkSlots, linkUsed, zeroLink, namespace, someOr, _>>=_}, proofs.Laws.{arith, needs, Searching, searching-begins, searching-finds, searching-turns, searching-ends}}
+use Rattle.layout.{specs.Layout.decode, proofs.Lengths.links-count}
+use Rattle.tables.specs.Tables.{linkAt}
 use Rattle.free_slots.proofs.free_link.Statement.{statement}
-use Rattle.free_slots.specs.Free.{linkSlot, freeLinkSlot}
+use Rattle.free_slots.specs.Free.{freeLink, linkSlot}
 use Rattle.free_slots.proofs.free_link.Tie as tie
 
 abbrev Inv-loop : tie.InvT-loop
-Inv-loop v i₀ i = freeLinkSlot v ≡ answerFrom linkSlot (λ x. not (linkUsed x)) (v .links) i
+Inv-loop b i₀ i = Searching (λ l. not (linkUsed l)) (decode b .volume .links) 0 i
 
 abbrev μ-loop : tie.MeasureT-loop
-μ-loop v i₀ i = linkSlots - i
-
-loop-holds : tie.Need-loop-holds Inv-loop μ-loop
-unfolding freeLinkSlot firstAfter
-loop-holds c = refl
-
-mul-l : tie.Need-mul-l Inv-loop μ-loop
-mul-l c = search needs
-
-element-copy-out-l : tie.Need-element-copy-out-l Inv-loop μ-loop
-element-copy-out-l c = search needs
-
-link-used-requires : tie.Need-link-used-requires Inv-loop μ-loop
-link-used-requires c κs = search needs
-
-cast-n : tie.Need-cast-n Inv-loop μ-loop
-cast-n c = search needs
+μ-loop b i₀ i = linkSlots - i
 
 returns : tie.Need-returns Inv-loop μ-loop
-unfolding linkSlot
+unfolding linkSlot freeLink namespace someOr _>>=_ linkAt
 returns c =
-    let u = c .before in
-    let l = u .before .before .before in
-    let h = links-length (l .before .args .t1) _ (l .before .good .0) in
-    sym
-    (l .loop .inv
-    ∙ answer-here linkSlot (λ x. not (linkUsed x)) (l .before .args .t1 .links) (l .loop .i) _ (omega arith)
-    (ap not (u .link-used .ensures)) (c .if1 .taken))
-
-add-i : tie.Need-add-i Inv-loop μ-loop
-add-i c = search needs
-
-loop-less : tie.Need-loop-less Inv-loop μ-loop
-loop-less c = search needs
+    let r = c .before in
+    let l = r .before .before in
+    let n = links-count (l .before .before .args .b .now) in
+    rw (searching-finds (l .loop .inv) zeroLink (omega arith) (rw (← r .read-link-used .ensures) (c .if1 .taken)))
 
 loop-again : tie.Need-loop-again Inv-loop μ-loop
+unfolding linkAt
 loop-again c =
-    let u = c .before in
-    let l = u .before .before .before in
-    let h = links-length (l .before .args .t1) _ (l .before .good .0) in
-    l .loop .inv
-    ∙ answer-next linkSlot (λ x. not (linkUsed x)) (l .before .args .t1 .links) (l .loop .i) _ (omega arith)
-    (ap not (u .link-used .ensures)) (c .if1 .left)
+    let r = c .before in
+    let l = r .before .before in
+    let n = links-count (l .before .before .args .b .now) in
+    searching-turns (l .loop .inv) zeroLink (omega arith) (rw (← r .read-link-used .ensures) (c .if1 .left))
 
 returns-2 : tie.Need-returns-2 Inv-loop μ-loop
-unfolding linkSlot
+unfolding linkSlot freeLink namespace someOr _>>=_
 returns-2 c =
     let l = c .before in
-    let h = links-length (l .before .args .t1) _ (l .before .good .0) in
-    sym (l .loop .inv ∙ answer-none linkSlot (λ x. not (linkUsed x)) (l .before .args .t1 .links) (l .loop .i)
-    (omega arith))
+    let n = links-count (l .before .before .args .b .now) in
+    rw (searching-ends (l .loop .inv) (omega arith))
 
 pub free-link-spec : {M : Type 1} → statement M
 free-link-spec =
@@ -67,13 +41,11 @@ free-link-spec =
     (tie.spec
     Inv-loop
     μ-loop
-    loop-holds
-    mul-l
-    element-copy-out-l
-    link-used-requires
-    cast-n
+    (λ c. searching-begins)
+    (λ c. search needs)
+    (λ c κs. search needs)
     returns
-    add-i
-    loop-less
+    (λ c. search needs)
+    (λ c. search needs)
     loop-again
     returns-2)

@@ -1,65 +1,41 @@
--- `free_slots::free_stream` meets its contract. The invariant: what is sought is what the rest of the table gives.
-use Rattle.base.{specs.Base.{_-_, _≡_, firstAfter, streamSlots, streamUsed, not}, proofs.Laws.{refl, sym, _∙_, ap, arith, needs, answerFrom, answer-here, answer-next, answer-none}}
-use Rattle.records.proofs.Lengths.{streams-length}
+-- `free_slots::free_stream` meets its contract: a turn of the loop looks at one slot more.
+use Rattle.base.{specs.Base.{_-_, not, bare, streamSlots, bareUsed, isUsed, zeroStream, namespace, someOr, _>>=_}, proofs.Laws.{arith, needs, after-map, Searching, searching-begins, searching-finds, searching-turns, searching-ends}}
+use Rattle.layout.{specs.Layout.decode, proofs.Lengths.streams-count}
+use Rattle.tables.specs.Tables.{streamAt}
 use Rattle.free_slots.proofs.free_stream.Statement.{statement}
-use Rattle.free_slots.specs.Free.{streamSlot, freeStreamSlot}
+use Rattle.free_slots.specs.Free.{freeStream, streamSlot}
 use Rattle.free_slots.proofs.free_stream.Tie as tie
 
 abbrev Inv-loop : tie.InvT-loop
-Inv-loop from v i₀ i = freeStreamSlot v from ≡ answerFrom streamSlot (λ x. not (streamUsed x)) (v .streams) i
+Inv-loop b from i₀ i = Searching (λ s. not (bareUsed (bare s))) (decode b .volume .streams) from i
 
 abbrev μ-loop : tie.MeasureT-loop
-μ-loop from v i₀ i = streamSlots - i
-
-loop-holds : tie.Need-loop-holds Inv-loop μ-loop
-unfolding freeStreamSlot firstAfter
-loop-holds c = refl
-
-mul-s : tie.Need-mul-s Inv-loop μ-loop
-mul-s c = search needs
-
-element-copy-out-s : tie.Need-element-copy-out-s Inv-loop μ-loop
-element-copy-out-s c = search needs
-
-stream-used-requires : tie.Need-stream-used-requires Inv-loop μ-loop
-stream-used-requires c κs = search needs
-
-cast-n : tie.Need-cast-n Inv-loop μ-loop
-cast-n c = search needs
+μ-loop b from i₀ i = streamSlots - i
 
 returns : tie.Need-returns Inv-loop μ-loop
-unfolding streamSlot
+unfolding streamSlot freeStream namespace someOr _>>=_ streamAt bareUsed bare
 returns c =
     let u = c .before in
-    let l = u .before .before .before in
-    let h = streams-length (l .before .args .t1) _ (l .before .good .0) in
-    sym
-    (l .loop .inv
-    ∙ answer-here streamSlot (λ x. not (streamUsed x)) (l .before .args .t1 .streams) (l .loop .i) _ (omega arith)
-    (ap not (u .stream-used .ensures)) (c .if1 .taken))
-
-add-i : tie.Need-add-i Inv-loop μ-loop
-add-i c = search needs
-
-loop-less : tie.Need-loop-less Inv-loop μ-loop
-loop-less c = search needs
+    let r = u .before in
+    let l = r .before .before in
+    let n = streams-count (l .before .before .args .b .now) in
+    rw (after-map, searching-finds (l .loop .inv) zeroStream (omega arith) (rw (← r .read-stream-type .ensures, ← u .is-used .ensures) (c .if1 .taken)))
 
 loop-again : tie.Need-loop-again Inv-loop μ-loop
+unfolding streamAt bareUsed bare
 loop-again c =
     let u = c .before in
-    let l = u .before .before .before in
-    let h = streams-length (l .before .args .t1) _ (l .before .good .0) in
-    l .loop .inv
-    ∙ answer-next streamSlot (λ x. not (streamUsed x)) (l .before .args .t1 .streams) (l .loop .i) _ (omega arith)
-    (ap not (u .stream-used .ensures)) (c .if1 .left)
+    let r = u .before in
+    let l = r .before .before in
+    let n = streams-count (l .before .before .args .b .now) in
+    searching-turns (l .loop .inv) zeroStream (omega arith) (rw (← r .read-stream-type .ensures, ← u .is-used .ensures) (c .if1 .left))
 
 returns-2 : tie.Need-returns-2 Inv-loop μ-loop
-unfolding streamSlot
+unfolding streamSlot freeStream namespace someOr _>>=_ bare
 returns-2 c =
     let l = c .before in
-    let h = streams-length (l .before .args .t1) _ (l .before .good .0) in
-    sym (l .loop .inv ∙ answer-none streamSlot (λ x. not (streamUsed x)) (l .before .args .t1 .streams) (l .loop .i)
-    (omega arith))
+    let n = streams-count (l .before .before .args .b .now) in
+    rw (after-map, searching-ends (l .loop .inv) (omega arith))
 
 pub free-stream-spec : {M : Type 1} → statement M
 free-stream-spec =
@@ -67,13 +43,12 @@ free-stream-spec =
     (tie.spec
     Inv-loop
     μ-loop
-    loop-holds
-    mul-s
-    element-copy-out-s
-    stream-used-requires
-    cast-n
+    (λ c. searching-begins)
+    (λ c. search needs)
+    (λ c κs. search needs)
+    (λ c κs. search needs)
     returns
-    add-i
-    loop-less
+    (λ c. search needs)
+    (λ c. search needs)
     loop-again
     returns-2)

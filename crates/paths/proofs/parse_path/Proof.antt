@@ -9,29 +9,29 @@ returns : tie.Need-returns
 unfolding asPath
 returns c =
     let s = c .before .before .args in
-    path-long (s .wants-directory) (s .wants-file) (s .path .now) (c .if1 .taken)
-
-ends-in-backslash-requires : tie.Need-ends-in-backslash-requires
-ends-in-backslash-requires c κs = search needs
+    record { is = path-long (s .wants-directory) (s .wants-file) (s .path .now) (c .if1 .taken); places = tt }
 
 returns-2 : tie.Need-returns-2
 unfolding asPath
 returns-2 c =
     let e = c .before .before .before in
     let s = e .before .before .args in
-    path-trail (s .wants-directory) (s .wants-file) (s .path .now) (e .if1 .left) (c .before .before .if2 .taken) (sym (c .before .ends-in-backslash .ensures) ∙ c .if3 .taken)
-
-parse-components-requires : tie.Need-parse-components-requires
-parse-components-requires c κs = search needs
+    record {
+      is = path-trail (s .wants-directory) (s .wants-file) (s .path .now) (e .if1 .left) (c .before .before .if2 .taken) (sym (c .before .ends-in-backslash .ensures) ∙ c .if3 .taken);
+      places = tt;
+    }
 
 returns-3 : tie.Need-returns-3
 returns-3 c =
     let e = c .before .before in
     let s = e .before .before .args in
     let untrailed : (s .wants-file && endsIn backslash (s .path .now)) ≡ false = ⊎-elim (λ w. rw (w .0 .taken) (sym (w .1 .ensures) ∙ w .2 .left)) (λ w. rw (w .left)) (c .before .if2 .came) in
-    c .parse-components .ensures ∙ path-fits (s .wants-directory) (s .wants-file) (s .path .now) (e .if1 .left) untrailed
+    record {
+      is = c .parse-components .ensures .is ∙ path-fits (s .wants-directory) (s .wants-file) (s .path .now) (e .if1 .left) untrailed;
+      places = c .parse-components .ensures .places;
+    }
 
 pub parse-path-spec : {M : Type 1} → statement M
 parse-path-spec =
     tie.close
-    (tie.spec returns ends-in-backslash-requires returns-2 parse-components-requires returns-3)
+    (tie.spec returns (λ c κs. search needs) returns-2 (λ c κs. search needs) returns-3)

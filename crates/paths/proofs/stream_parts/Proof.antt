@@ -1,74 +1,54 @@
 -- `paths::stream_parts` meets its contract: a type follows the second colon, or the stream's name ends the component.
-use Rattle.base.{specs.Base.{true, false}, proofs.Laws.{sym, ap, _∙_, needs}}
-use Rattle.components.specs.Positions.{partOf, parentsOf}
-use Rattle.paths.proofs.{Parsing.{stream-type, stream-empty, stream-only}, stream_parts.Statement.statement}
-use Rattle.paths.specs.Positions.{asLeaf, asPath, named}
+use Rattle.base.{specs.Base.{_≡_, true}, proofs.Laws.{sym, _∙_, needs}}
+use Rattle.components.{specs.Positions.partOf, proofs.Places.{Searched, upTo, past, first-within}}
+use Rattle.units.specs.Units.{colon, dataType, equalUnits}
+use Rattle.paths.proofs.{Parsing.{stream-typed, stream-untyped, stream-empty, stream-only}, stream_parts.Statement.statement}
+use Rattle.paths.specs.Positions.{LeafWithin}
 use Rattle.paths.proofs.stream_parts.Tie as tie
 
-units-before-requires : tie.Need-units-before-requires
-units-before-requires c κs = search needs
+module _ (c : tie.After-find-sign) where
+  abbrev start : tie.Start
+  start = c .before .before .before
 
-find-sign-requires : tie.Need-find-sign-requires
-find-sign-requires c κs = search needs
+  searched : Searched colon (start .args .path .now) (start .args .rest) (c .before .units-before .result .now) (c .find-sign .result)
+  searched = record { before = c .before .units-before .ensures; found = c .find-sign .ensures }
 
-add-t12 : tie.Need-add-t12
-add-t12 c = search needs
+  within : LeafWithin (start .args .path .now) (record { file = start .args .file; stream = upTo (start .args .rest) (c .find-sign .result); colon = true })
+  within = record { file = start .pre .0; stream = first-within searched (start .pre .1) }
 
-part-of-requires : tie.Need-part-of-requires
-part-of-requires c κs = search needs
-
-is-data-type-requires : tie.Need-is-data-type-requires
-is-data-type-requires c κs = search needs
+-- what is found after the second colon
+typed : (c : tie.After-is-data-type) → let f = c .before .before .before in equalUnits true (partOf (start f .args .path .now) (past (start f .args .rest) (f .find-sign .result))) dataType ≡ c .is-data-type .result
+typed c = rw (← c .before .part-of .ensures) (sym (c .is-data-type .ensures))
 
 returns : tie.Need-returns
-unfolding asPath asLeaf named partOf
 returns c =
     let f = c .before .before .before .before in
-    let s = f .before .before .before .args in
-    let p = s .path .now in
-    sym
-    (ap (named (parentsOf p (s .file)))
-    (stream-type p (s .rest .start) (s .rest .end) (f .find-sign .result) (f .before .units-before .ensures) (f .find-sign .ensures) (partOf p (s .file)) true (c .before .before .part-of .ensures) (c .before .before .before .if1 .taken) (sym (c .before .is-data-type .ensures) ∙ c .if2 .taken)))
+    stream-typed (searched f) (start f .args .file) (c .before .before .before .if1 .taken) (typed (c .before) ∙ c .if2 .taken) (within f)
 
 returns-2 : tie.Need-returns-2
-unfolding asPath asLeaf named partOf
 returns-2 c =
     let f = c .before .before .before .before in
-    let s = f .before .before .before .args in
-    let p = s .path .now in
-    sym
-    (ap (named (parentsOf p (s .file)))
-    (stream-type p (s .rest .start) (s .rest .end) (f .find-sign .result) (f .before .units-before .ensures) (f .find-sign .ensures) (partOf p (s .file)) false (c .before .before .part-of .ensures) (c .before .before .before .if1 .taken) (sym (c .before .is-data-type .ensures) ∙ c .if2 .left)))
+    stream-untyped (searched f) (start f .args .file) (c .before .before .before .if1 .taken) (typed (c .before) ∙ c .if2 .left)
 
 returns-3 : tie.Need-returns-3
-unfolding asPath asLeaf named partOf
 returns-3 c =
     let f = c .before .before in
-    let s = f .before .before .before .args in
-    let p = s .path .now in
-    sym
-    (ap (named (parentsOf p (s .file)))
-    (stream-empty p (s .rest .start) (s .rest .end) (f .find-sign .result) (f .before .units-before .ensures) (f .find-sign .ensures) (partOf p (s .file)) (c .before .if1 .left) (c .if3 .taken)))
+    stream-empty (searched f) (start f .args .file) (c .before .if1 .left) (c .if3 .taken)
 
 returns-4 : tie.Need-returns-4
-unfolding asPath asLeaf named partOf
 returns-4 c =
     let f = c .before .before in
-    let s = f .before .before .before .args in
-    let p = s .path .now in
-    sym
-    (ap (named (parentsOf p (s .file)))
-    (stream-only p (s .rest .start) (s .rest .end) (f .find-sign .result) (f .before .units-before .ensures) (f .find-sign .ensures) (partOf p (s .file)) (c .before .if1 .left) (c .if3 .left)))
+    stream-only (searched f) (start f .args .file) (c .before .if1 .left) (c .if3 .left) (within f)
 
 pub stream-parts-spec : {M : Type 1} → statement M
 stream-parts-spec =
     tie.close
     (tie.spec
-    units-before-requires
-    find-sign-requires
-    add-t12
-    part-of-requires
-    is-data-type-requires
+    (λ c κs. search needs)
+    (λ c κs. search needs)
+    (λ c. search needs)
+    (λ c κs. search needs)
+    (λ c κs. search needs)
     returns
     returns-2
     returns-3

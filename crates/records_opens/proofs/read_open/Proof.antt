@@ -1,7 +1,7 @@
 -- `records_opens::read_open` meets its contract: the record at the number's place is that of the table.
 use Rattle.base.proofs.Laws.{needs, sym, _∙_, arith}
 use Rattle.layout.proofs.{Fields.open-field, InPlace.{in-place, open-past}}
-use Rattle.open_table.specs.Rows.{rowAt}
+use Rattle.tables.specs.Tables.{rowAt}
 use Rattle.records_opens.proofs.read_open.Statement.{statement}
 use Rattle.records_opens.proofs.read_open.Tie as tie
 

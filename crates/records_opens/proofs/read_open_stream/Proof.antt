@@ -2,7 +2,7 @@
 use Rattle.base.{proofs.Laws.{needs, ap, sym, arith}, specs.Base.Open}
 use Rattle.codecs.proofs.Fields.{inner}
 use Rattle.layout.proofs.{Fields.{open-field, open-stream-in}, InPlace.{in-place, open-past}}
-use Rattle.open_table.specs.Rows.{rowAt}
+use Rattle.tables.specs.Tables.{rowAt}
 use Rattle.records_opens.proofs.read_open_stream.Statement.{statement}
 use Rattle.records_opens.proofs.read_open_stream.Tie as tie
 

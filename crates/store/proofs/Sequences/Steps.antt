@@ -1,7 +1,8 @@
 -- Each kind of call keeps tables and model related, and is answered alike.
 use Rattle.base.{specs.Base.{_<_, suc, ℕ, Permutation, any, both, find, keep, skip, writes, Checked, Refusal, _>>=_, _>>_, passed, refuseIf, refused, someOr, shareRead, Namespace, bareAt, bareUsed, namespace, seen, statusNumber, openUsed, zeroOpen, Step, Tables, concluded, Terms, termsOf, Handle, Open, Request, FileCorruptError, InvalidHandle, StreamNo, length, set, Bool, _&&_, false, not, true, List, _∷_, _⊎_, inl, inr, Option, none, some, _≡_, done}, proofs.Laws.{none-too, perm-apart, perm-sym, Ends, goes, stops, ⊎-elim, _∙_, refl, subst, sym, ap}}
-use Rattle.consistency.{proofs.{Derived.free-unopened, Equivalence.consistent-iff}, specs.{Consistent.{Consistent, CountsTrue, FilesConsistent, LinksConsistent, NoConflicts, OpensConsistent, StreamsConsistent, openAt}, Relations.live}}
+use Rattle.consistency.{proofs.{Derived.free-unopened, Equivalence.consistent-iff}, specs.Consistent.{Consistent, CountsTrue, FilesConsistent, LinksConsistent, NoConflicts, OpensConsistent, StreamsConsistent, openAt}}
 use Rattle.sharing.{proofs.Check.any-conflict-perm, specs.Sharing.{anyConflict, conflict, onStream, withoutOpen}}
+use Rattle.tables.specs.Tables.{live}
 use Rattle.store.proofs.Sequences.{Completed.{DecisionFits, Unopposed, decide-ends}, Facts.{Joins, NamespaceConsistent, Other, namespace-of}, Opens.{Close.{Struck, handle-is, handle-used, one-handle, others-kept, struck}, Conflicts.share-more, Counts.{counts-joined, counts-left, counts-written}, Join.{conflicts-joined, joined, joined-live, joins-used}, Leave.{conflicts-left, left, left-live}, Names.{changed-names, used-below, with-open-names, without-open-names}, Table.opens-kept}, Views.{Related, closing-alike, decided-alike, room-same}}
 use Rattle.store.specs.{Calls.{Call, closes, modelStep, opens, setsReadOnly, storeStep}, Complete.{Change, Closing, Decision, changed, decide, decideClose, newOpen, nextHandle, noChange, withShareRead}, Model.{Model, modelClose, modelClosed, modelOpen, modelOpened, modelSetReadOnly, modelView, namespaceMarked}, Sequences.{handleOf, isCorrupt}, Store.{changedVolume, closed, hasHandle, opened, recount, storeClose, storeOpen, storeSetReadOnly, storeView, volumeMarked, volumeWithOpen, volumeWithoutOpen, whenConsistent}}
 

@@ -1,9 +1,9 @@
 -- Demand 3: every sequence of calls from a freshly formatted volume (store/specs/Sequences.antt has the statement).
 use Rattle.base.{specs.Base.{_<_, suc, zero, ℕ, all, any, keep, nil, pairs, _>>_, passed, refuseIf, Reply, openUsed, zeroOpen, Step, Tables, concluded, Open, Done, Refused, FileCorruptError, InvalidParameter, Status, StreamNo, eqb, length, Bool, _||_, false, not, true, List, [], _∷_, inl, inr, _≡_, done}, proofs.Laws.{and-both, not-is, perm-pairs, eq-eqb, eqb-false, eqb-true, ne-eqb, _∙_, ap, ap₂, refl, subst, subst₂, sym, arith}}
-use Rattle.consistency.{proofs.{Opens.agree-iff, Slots.two-iff}, specs.{Good.{OpensAgree, handlesDiffer, opensAgree}, Relations.{live, validMasks}}}
+use Rattle.consistency.{proofs.{Opens.agree-iff, Slots.two-iff}, specs.{Good.{OpensAgree, handlesDiffer, opensAgree}, Relations.validMasks}}
 use Rattle.format.{proofs.Fresh.fresh-consistent, specs.Format.{checkedMasks, format, freshTables, freshVolume, rightLengths}}
 use Rattle.sharing.{proofs.{Counts.counts-perm, PairRule.conflicting-sym}, specs.Sharing.countsOf}
-use Rattle.tables.specs.Tables.{streamAt}
+use Rattle.tables.specs.Tables.{streamAt, live}
 use Rattle.store.proofs.Sequences.{Steps.{Issues, together}, Views.Related, Violation.{from-check, share-right, violation}}
 use Rattle.store.specs.{Calls.{Call, Run, modelStep, run, storeStep}, Complete.nextHandle, Model.{Model, freshModel, modelFormat}, Sequences.{Agree, EverySequence, handleOf, isCorrupt, issued, numbersFrom}}
 

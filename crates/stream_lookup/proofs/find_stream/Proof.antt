@@ -1,6 +1,7 @@
 -- `stream_lookup::find_stream` meets its contract. The invariant: the answer is what the rest of the table gives.
 use Rattle.base.{specs.Base.{ℕ, _-_, _≡_, Bool, List, Option, first, namespace, bare, FileNo, Stream, streamSlots}, proofs.Laws.{sym, ap, _∙_, arith, needs, answerFrom, answer-here, answer-next, answer-none, first-map}}
-use Rattle.records.proofs.Lengths.{streams-length}
+use Rattle.layout.{specs.Layout.decode, proofs.Lengths.streams-count}
+use Rattle.tables.specs.Tables.{streamAt}
 use Rattle.stream_lookup.proofs.find_stream.Statement.{statement}
 use Rattle.stream_lookup.specs.{StreamLookup.{streamMatches, streamNumber, findStream, foundStream}, declared.FoundStream.FoundStream}
 use Rattle.stream_lookup.proofs.find_stream.Tie as tie
@@ -12,63 +13,47 @@ abbrev matches : Bool → FileNo → List ℕ → Stream → Bool
 matches fold file name s = streamMatches fold file name (bare s)
 
 abbrev Inv-loop : tie.InvT-loop
-Inv-loop file name fold v i₀ i =
+Inv-loop b file name fold i₀ i =
+    let v = decode b .volume in
     foundStream (findStream (namespace v) fold file name) ≡ answerFrom found (matches fold file name) (v .streams) i
 
 abbrev μ-loop : tie.MeasureT-loop
-μ-loop file name fold v i₀ i = streamSlots - i
+μ-loop b file name fold i₀ i = streamSlots - i
 
 loop-holds : tie.Need-loop-holds Inv-loop μ-loop
 unfolding findStream first namespace
 loop-holds c =
-    let a = c .before .args in
-    ap found (first-map bare (streamMatches (a .fold) (a .file) (a .name .now)) (a .t1 .streams))
-
-mul-s : tie.Need-mul-s Inv-loop μ-loop
-mul-s c = search needs
-
-element-copy-out-s : tie.Need-element-copy-out-s Inv-loop μ-loop
-element-copy-out-s c = search needs
-
-stream-matches-requires : tie.Need-stream-matches-requires Inv-loop μ-loop
-stream-matches-requires c κs = search needs
-
-cast-stream : tie.Need-cast-stream Inv-loop μ-loop
-cast-stream c = search needs
+    let a = c .before .before .args in
+    ap found (first-map bare (streamMatches (a .fold) (a .file) (a .name .now)) (decode (a .b .now) .volume .streams))
 
 returns : tie.Need-returns Inv-loop μ-loop
-unfolding foundStream streamNumber
+unfolding foundStream streamNumber streamAt
 returns c =
-    let u = c .before in
-    let l = u .before .before .before in
-    let a = l .before .before in
-    let h = streams-length (a .args .t1) _ (a .good .0) in
+    let m = c .before in
+    let l = m .before .before in
+    let a = l .before .before .before .args in
+    let count = streams-count (a .b .now) in
     sym
     (l .loop .inv
-    ∙ answer-here found (matches (a .args .fold) (a .args .file) (a .args .name .now)) (a .args .t1 .streams) (l .loop .i) _ (omega arith) (u .stream-matches .ensures) (c .if1 .taken))
-
-add-i : tie.Need-add-i Inv-loop μ-loop
-add-i c = search needs
-
-loop-less : tie.Need-loop-less Inv-loop μ-loop
-loop-less c = search needs
+    ∙ answer-here found (matches (a .fold) (a .file) (a .name .now)) (decode (a .b .now) .volume .streams) (l .loop .i) _ (omega arith) (m .stream-matches .ensures) (c .if1 .taken))
 
 loop-again : tie.Need-loop-again Inv-loop μ-loop
+unfolding streamAt
 loop-again c =
-    let u = c .before in
-    let l = u .before .before .before in
-    let a = l .before .before in
-    let h = streams-length (a .args .t1) _ (a .good .0) in
+    let m = c .before in
+    let l = m .before .before in
+    let a = l .before .before .before .args in
+    let count = streams-count (a .b .now) in
     l .loop .inv
-    ∙ answer-next found (matches (a .args .fold) (a .args .file) (a .args .name .now)) (a .args .t1 .streams) (l .loop .i) _ (omega arith) (u .stream-matches .ensures) (c .if1 .left)
+    ∙ answer-next found (matches (a .fold) (a .file) (a .name .now)) (decode (a .b .now) .volume .streams) (l .loop .i) _ (omega arith) (m .stream-matches .ensures) (c .if1 .left)
 
 returns-2 : tie.Need-returns-2 Inv-loop μ-loop
 unfolding foundStream streamNumber
 returns-2 c =
     let l = c .before in
-    let a = l .before .before in
-    let h = streams-length (a .args .t1) _ (a .good .0) in
-    sym (l .loop .inv ∙ answer-none found (matches (a .args .fold) (a .args .file) (a .args .name .now)) (a .args .t1 .streams) (l .loop .i) (omega arith))
+    let a = l .before .before .before .args in
+    let count = streams-count (a .b .now) in
+    sym (l .loop .inv ∙ answer-none found (matches (a .fold) (a .file) (a .name .now)) (decode (a .b .now) .volume .streams) (l .loop .i) (omega arith))
 
 pub find-stream-spec : {M : Type 1} → statement M
 find-stream-spec =
@@ -77,12 +62,10 @@ find-stream-spec =
     Inv-loop
     μ-loop
     loop-holds
-    mul-s
-    element-copy-out-s
-    stream-matches-requires
-    cast-stream
+    (λ c. search needs)
+    (λ c κs. search needs)
     returns
-    add-i
-    loop-less
+    (λ c. search needs)
+    (λ c. search needs)
     loop-again
     returns-2)

@@ -5,18 +5,6 @@ use Rattle.lookup.proofs.walk.locate.Statement.{statement}
 use Rattle.lookup.specs.{Lookup.locate, Answers.{leafNames, asPlace, locateParsed}}
 use Rattle.lookup.proofs.walk.locate.Tie as tie
 
-enum-told : tie.Need-enum-told
-enum-told c = search needs
-
-enum-told-2 : tie.Need-enum-told-2
-enum-told-2 c = search needs
-
-enum-known-parsed : tie.Need-enum-known-parsed
-enum-known-parsed c = search needs
-
-locate-leaf-requires : tie.Need-locate-leaf-requires
-locate-leaf-requires c κs = search needs
-
 returns : tie.Need-returns
 unfolding asPlace leafNames locateParsed asPath _>>=_
 returns c = rw (c .enum-told .given .1)
@@ -33,10 +21,10 @@ pub locate-spec : {M : Type 1} → statement M
 locate-spec =
     tie.close
     (tie.spec
-    enum-told
-    enum-told-2
-    enum-known-parsed
-    locate-leaf-requires
+    (λ c. search needs)
+    (λ c. search needs)
+    (λ c. search needs)
+    (λ c κs. search needs)
     returns
     returns-2
     returns-3)

@@ -1,7 +1,7 @@
 -- The slots that step 12 takes: each is free, and not below the number that the search starts from.
 use Rattle.base.{specs.Base.{ℕ, _≤_, _≡_, Bool, not, List, firstAfter, zeroFile, zeroLink, fileUsed, linkUsed, Namespace, zeroBare, bareUsed, passed, _>>=_, someOr, FileNo, LinkNo, StreamNo, statusNumber, DiskFull}, proofs.Laws.{refl, sym, subst, not-true, after-found, FreeSlot, Ends, ends-bind, ends-some, goes}}
+use Rattle.free_slots.specs.Free.{freeFile, freeLink, freeStream}
 use Rattle.store.proofs.Sequences.Facts.{Early}
-use Rattle.store.specs.Complete.{freeFile, freeLink, freeStream}
 
 module _ {A N : Type 0} (used : A → Bool) (d : A) (make : ℕ → N) (number : N → ℕ) (made : (n : ℕ) → number (make n) ≡ n) where
   slot-taken : (xs : List A) (from : ℕ)

@@ -1,6 +1,7 @@
 -- A handle among the opens: the one that has it, and the opens that are left when that one goes.
 use Rattle.base.{specs.Base.{_<_, ℕ, Permutation, all, any, both, find, first, keep, pairs, BareStream, openUsed, zeroOpen, Handle, Open, eqb, length, set, false, not, true, List, _∷_, Option, some, _≡_}, proofs.Laws.{refuted, excluded, and-left, and-right, not-is, not-isn't, all-at, none-of, keep-no, keep-others, pairs-keep-of, first-found, apart, find-found, perm-eq, perm-keep, perm-sym, eqb-true, _∙_, ap, subst, sym}}
-use Rattle.consistency.{proofs.Numbered.same-handle, specs.{Consistent.{OpensConsistent, openAt}, Relations.live}}
+use Rattle.consistency.{proofs.Numbered.same-handle, specs.Consistent.{OpensConsistent, openAt}}
+use Rattle.tables.specs.Tables.{live}
 use Rattle.store.specs.Store.{hasHandle, rowsWithoutOpen, stored}
 
 pub handle-used : (h : Handle) (o : Open) → hasHandle h o ≡ true → openUsed o ≡ true

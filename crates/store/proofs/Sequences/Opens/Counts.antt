@@ -1,9 +1,9 @@
 -- The share counts stay true: an open joins or leaves, and a change leaves them.
 use Rattle.base.{specs.Base.{_<_, ℕ, any, BareStream, bare, withCounts, openUsed, zeroCounts, zeroOpen, zeroStream, Open, ShareCounts, Stream, StreamNo, getD, length, set, false, not, true, List, [], _∷_, map, _≡_}, proofs.Laws.{set-cases, eq-eqb, ne-eqb, List·getD-map, length-map, length-set, ⊎-elim, _∙_, ap, refl, sym, arith}}
 use lib.Seq.{map-set-same}
-use Rattle.consistency.specs.{Consistent.{CountsTrue, openAt}, Relations.live}
+use Rattle.consistency.specs.Consistent.{CountsTrue, openAt}
 use Rattle.sharing.{proofs.Counts.{counts-cons, counts-less, counts-perm, counts-skip}, specs.Sharing.{countsOf, onStream, withOpen, withoutOpen}}
-use Rattle.tables.specs.Tables.{streamAt}
+use Rattle.tables.specs.Tables.{streamAt, live}
 use Rattle.store.proofs.Sequences.Opens.{Join.joined-live, Leave.left-live}
 use Rattle.store.specs.Store.{recount, rowsWithOpen, writeStreams}
 

@@ -1,7 +1,8 @@
 -- An open joins the table: it takes the lowest free slot.
 use Rattle.base.{specs.Base.{_<_, _≤_, suc, ℕ, Permutation, any, first, firstAfter, BareStream, openUsed, zeroOpen, Terms, termsOf, Handle, Open, StreamNo, length, set, _&&_, false, not, true, List, _∷_, Option, _≡_}, proofs.Laws.{excluded, not-both, not-is, none-kept-at, first-found, first-some, keep-set-in, eq-eqb, ne-eqb, not-true, _∙_, ap, refl, sym, arith}}
-use Rattle.consistency.specs.{Consistent.{NoConflicts, OpensConsistent, openAt}, Relations.live}
+use Rattle.consistency.specs.Consistent.{NoConflicts, OpensConsistent, openAt}
 use Rattle.sharing.{proofs.PairRule.conflicting-sym, specs.Sharing.{anyConflict, conflict, conflicting, onStream}}
+use Rattle.tables.specs.Tables.{live}
 use Rattle.store.proofs.Sequences.{Facts.Joins, Opens.Table.{conflicts-set, replaced}}
 use Rattle.store.specs.Store.{rowsWithOpen, stored}
 

@@ -1,6 +1,7 @@
 -- An open leaves the table: its slot is free again.
 use Rattle.base.{specs.Base.{ℕ, _<_, _≡_, true, List, _∷_, length, set, Permutation, zeroOpen, openUsed, BareStream, Open}, proofs.Laws.{refl, false≢true, arith, keep-set-gone}}
-use Rattle.consistency.specs.{Relations.live, Consistent.{openAt, OpensConsistent, NoConflicts}}
+use Rattle.consistency.specs.Consistent.{openAt, OpensConsistent, NoConflicts}
+use Rattle.tables.specs.Tables.{live}
 use Rattle.store.proofs.Sequences.Opens.Table.{replaced, conflicts-set}
 
 pub left : {ss : List BareStream} {next : ℕ} {os : List Open} → OpensConsistent ss next os → (i : ℕ)
