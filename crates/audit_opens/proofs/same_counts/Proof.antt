@@ -1,8 +1,8 @@
--- `audit_counts::same_counts` meets its contract.
+-- `audit_opens::same_counts` meets its contract.
 use Rattle.base.proofs.Laws.{refl}
 use Rattle.consistency.specs.Test.{sameCounts}
-use Rattle.audit_counts.proofs.same_counts.Statement.{statement}
-use Rattle.audit_counts.proofs.same_counts.Tie as tie
+use Rattle.audit_opens.proofs.same_counts.Statement.{statement}
+use Rattle.audit_opens.proofs.same_counts.Tie as tie
 
 returns : tie.Need-returns
 unfolding sameCounts
