@@ -22,6 +22,7 @@ pub use Rattle.lists.proofs.Permutations.{perm-refl, perm-eq, perm-sym, perm-le
 pub use Rattle.lists.proofs.Set.{FreeSlot, SetAt, set-cases, set-each, set-pairs, count-gained, one-before, one-added, free-stays, map-set}
 pub use Rattle.lists.proofs.Copied.{Copied, copied-none, copied-next, copied-all}
 pub use Rattle.lists.proofs.Pigeonhole.{pigeonhole, least}
-pub use Rattle.lists.proofs.Keyed.{Noted, keyed, keyed-own, back-skip, back-set, front-skip, front-add}
+pub use Rattle.lists.proofs.Keyed.{Noted, keyed, keyed-own, back-skip, back-set}
+pub use Rattle.lists.proofs.Counted.{Counted, count-begins, count-room, count-ends, count-skips, count-adds}
 pub use Rattle.lists.proofs.Back.{Scanned, scan-none, scan-fails, scan-back, scan-end}
 pub use Rattle.records.proofs.Checked.{Ends, stops, goes, refused≢passed, passed-same, refused-same, bind-of, test-refuses, stopped, went, ends-bind, ends-test, ends-cond, ends-some, ends-weaker}
