@@ -1,7 +1,7 @@
 -- The first place that passes, and the first element.
 use Prim.Native.Nat.{ℕ, suc, _+_, _≤_, _<_}
 use lib.{ListN.{length, getD, drop, drop-of-length-le, length-drop}, Seq.{drop-cons, getD-drop}}
-use mathlib.Core.{Path.{_≡_, refl, sym, _∙_, ap}, Bool.{Bool, true, false, not, _&&_, false≢true, and-comm}, List.{List, [], _∷_, map}, Logic._↔_, Option.{Option, none, some, Option·some-injective}}
+use mathlib.Core.{Path.{_≡_, refl, sym, _∙_, ap}, Bool.{Bool, true, false, not, _&&_, false≢true, and-comm}, List.{List, [], _∷_, map}, Logic._↔_, Option.{none, some, Option·some-injective}}
 use native.Mathlib.{Numerals.add-one, Omega.arith}
 use Rattle.lists.proofs.{Tests.{none≢some, by-cases, and-left, and-right, refuted, excluded, or-neither}, Places.drop-map, Permutations.perm-pairs}
 use Rattle.lists.specs.Lists.{all, any, keep, pairs, firstFrom, first, firstAfter, find, Permutation, nil, skip, swap, both}

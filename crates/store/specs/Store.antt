@@ -3,13 +3,10 @@
 use Rattle.base.specs.Base.{ℕ, suc, Bool, not, _&&_, List, [], _∷_, Option, none, some, eqb, set, any, find, first, writes, zeroOpen, openUsed, BareStream, bare, withCounts, namespace, Checked, passed, _>>=_, _>>_, refuseIf, Tables, Step, done, concluded, FileCorruptError, StreamNo, Handle, ShareCounts, Stream, Open, Volume, Request}
 use Rattle.consistency.specs.Test.{consistent}
 use Rattle.open_table.specs.Rows.{freeRow, fileHasOpen}
+unfoldable pub use Rattle.open_table.specs.Rows.{hasHandle}
 use Rattle.sharing.specs.Sharing.{shareCheck, withOpen, withoutOpen}
 use Rattle.tables.specs.Tables.{streamAt}
 use Rattle.store.specs.Complete.{View, Change, Decision, newOpen, openReply, decide, Closing, decideClose}
-
--- an open that has the handle
-unfoldable pub hasHandle : Handle → Open → Bool
-hasHandle h o = openUsed o && eqb (o .handle .0) (h .0)
 
 -- the tables' answers about the opens: conflicts by the share check
 unfoldable pub storeView : Tables → View
