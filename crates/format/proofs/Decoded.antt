@@ -73,8 +73,8 @@ module _ (bs masks : List ℕ) (readOnly : Bool) (long : length bs ≡ tablesSiz
       (λ v. rw (invalid-masks bs masks readOnly long v, tables-invalid v))
 
   -- a refusal leaves the bytes, and with them the tables
-  pub same-tables : decode (formatBytes bs masks readOnly .state) ≡ format (decode bs) masks readOnly .state
-  same-tables =
+  pub decoded-tables : decode (formatBytes bs masks readOnly .state) ≡ format (decode bs) masks readOnly .state
+  decoded-tables =
       by-cases (validMasks masks)
       (λ v. rw (formatted bs masks readOnly long v, tables-formatted v) (decode-encode (freshTables masks readOnly) (fresh-fits v)))
       (λ v. rw (invalid-masks bs masks readOnly long v, tables-invalid v))

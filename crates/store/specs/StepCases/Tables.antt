@@ -168,6 +168,8 @@ formatCases =
     formatDone (lengths 127 8 191 32 255 32 256) masks false
     ∷ formatDone (lengths 127 8 191 32 255 32 256) masks true
     ∷ formatRefused (lengths 127 8 191 32 255 32 256) bad false INVALID_PARAMETER
+    ∷ formatRefused (lengths 127 8 191 32 255 32 256) (replicate 7 0) false INVALID_PARAMETER
+    ∷ formatRefused (lengths 127 8 191 32 255 32 256) (replicate 9 0) false INVALID_PARAMETER
     ∷ formatRefused (lengths 126 8 191 32 255 32 256) bad false FILE_CORRUPT_ERROR
     ∷ formatRefused (lengths 126 8 191 32 255 32 256) masks false FILE_CORRUPT_ERROR
     ∷ formatRefused (lengths 128 8 191 32 255 32 256) masks false FILE_CORRUPT_ERROR
