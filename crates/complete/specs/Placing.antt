@@ -1,7 +1,7 @@
 -- The code's answers as the definitions' (the sharing check, step 10's end and step 12).
 use Rattle.base.specs.Base.{ℕ, suc, _≡_, Bool, cond, List, some, Namespace, Checked, passed, refuse, _>>=_, Terms, Tables, namespace, DiskFull, CreateAction, StreamNo, Handle, Open}
 use Rattle.free_slots.specs.Free.{freeFile, freeLink, freeStream}
-use Rattle.open_steps.specs.{Pendings.termsOver, Decisions.asDecision, declared.{FileSlots.FileSlots, AcceptedOpen.AcceptedOpen, DecidedOpen.{DecidedOpen, the-variants.{Refused, Accepted}}}}
+use Rattle.open_steps.specs.{Pendings.termsOver, Decisions.asDecision, declared.{FileSlots.FileSlots, DecidedOpen.{DecidedOpen, the-variants.{Refused, Accepted}}}}
 use Rattle.open_table.specs.Rows.{freeRow}
 use Rattle.store.specs.{Prepare.Pending, Complete.{View, Placed, Decision, nextHandle, complete}, Store.storeView}
 use Rattle.complete.specs.declared.{OpenPlace.OpenPlace, SharingMode.SharingMode, FilePlace.FilePlace}

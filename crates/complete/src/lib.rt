@@ -103,7 +103,13 @@ fn alone_if_asked(b: &[u8], rule: SharingRule, file: FileNo) -> bool
 }
 
 // Step 12's end: the open with its row and handle.
-fn finish(b: &[u8], action: CreateAction, placed: PlacedOpen, granted: u32, share: u32) -> DecidedOpen
+fn finish(
+    b: &[u8],
+    action: CreateAction,
+    placed: PlacedOpen,
+    granted: u32,
+    share: u32,
+) -> DecidedOpen
     requires { ⌜ length (now b) ≡ tablesSize ⌝ }
     ensures { λ x. ⌜ ((path : List ℕ) → Decides (decode (now (b .entry))) path x (finished (storeView (decode (now (b .entry)))) action (asPlaced (namespace (decode (now (b .entry)) .volume)) path placed) (termsOver granted share))) ⌝ }
 {
@@ -138,7 +144,13 @@ fn complete_existing(b: &[u8], e: ExistingOpen) -> DecidedOpen
         SharingMode::Mode(share) => {
             let action = e.action;
             let attributes = e.attributes;
-            finish(b, action, PlacedOpen::Existing(file, stream, attributes), e.granted, share)
+            finish(
+                b,
+                action,
+                PlacedOpen::Existing(file, stream, attributes),
+                e.granted,
+                share,
+            )
         }
     }
 }
@@ -152,7 +164,13 @@ fn complete_stream(b: &[u8], s: StreamToAdd) -> DecidedOpen
     let StreamSlot::At(stream) = slot else {
         return DecidedOpen::Refused(Status::DiskFull);
     };
-    finish(b, CreateAction::Created, PlacedOpen::NewStream(s, stream), s.granted, s.share)
+    finish(
+        b,
+        CreateAction::Created,
+        PlacedOpen::NewStream(s, stream),
+        s.granted,
+        s.share,
+    )
 }
 
 // The slots that a new file takes, or that there are too few.
@@ -202,6 +220,7 @@ fn file_place(b: &[u8], named: bool) -> FilePlace
     })
 }
 
+// Step 12 for a new file: a stream that the path names gets a slot of its own.
 fn complete_file(b: &[u8], path: &[u16], f: FileToAdd) -> DecidedOpen
     requires { ⌜ length (now b) ≡ tablesSize ⌝ }
     ensures { λ x. ⌜ Decides (decode (now (b .entry))) (now (path .entry)) x (definitions.complete (storeView (decode (now (b .entry)))) (namespace (decode (now (b .entry)) .volume)) (creating (newFile (f .dir) (asLeaf (now (path .entry)) (f .leaf)) (asFile (decode (now (b .entry)) .volume .files) f)) (termsOver (f .granted) (f .share)))) ⌝ }
@@ -211,7 +230,13 @@ fn complete_file(b: &[u8], path: &[u16], f: FileToAdd) -> DecidedOpen
     let place = file_place(b, part_of(path, name).len() != 0);
     match place {
         FilePlace::Full => DecidedOpen::Refused(Status::DiskFull),
-        FilePlace::At(slots) => finish(b, CreateAction::Created, PlacedOpen::NewFile(f, slots), f.granted, f.share),
+        FilePlace::At(slots) => finish(
+            b,
+            CreateAction::Created,
+            PlacedOpen::NewFile(f, slots),
+            f.granted,
+            f.share,
+        ),
     }
 }
 

@@ -1,21 +1,16 @@
-use borrow.Author.Needs.{needs}
+-- `complete::alone_if_asked` meets its contract: a sharing mode that stays as offered asks for no opens.
+use Rattle.base.proofs.Laws.{needs}
+use Rattle.open_steps.specs.Pendings.{asReadSharing}
+use Rattle.store.specs.Complete.{shareOf}
 use Rattle.complete.proofs.alone_if_asked.Statement.{statement}
 use Rattle.complete.proofs.alone_if_asked.Tie as tie
-use Rattle.complete.proofs.alone_if_asked.Reads as reads
-use Rattle.complete.proofs.alone_if_asked.Lts as lts
-use Rattle.open_table.proofs.file_has_open.Reads as file-has-open-reads
-
-enum-told : tie.Need-enum-told
-enum-told c = search needs
-
-file-has-open-requires : tie.Need-file-has-open-requires
-file-has-open-requires c κs = search needs
 
 returns : tie.Need-returns
-returns c = ?
+unfolding asReadSharing shareOf
+returns c t = rw (c .enum-told .given .1)
 
 returns-2 : tie.Need-returns-2
-returns-2 c = ?
+returns-2 c t = rw (c .file-has-open .ensures)
 
 pub alone-if-asked-spec : {M : Type 1} → statement M
-alone-if-asked-spec = tie.close (tie.spec enum-told file-has-open-requires returns returns-2)
+alone-if-asked-spec = tie.close (tie.spec (λ c. search needs) (λ c κs. search needs) returns returns-2)

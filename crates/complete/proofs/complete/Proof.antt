@@ -1,56 +1,37 @@
-use borrow.Author.Needs.{needs}
+-- `complete::complete` meets its contract, by what is pending.
+use Rattle.base.{specs.Base._>>=_, proofs.Laws.needs}
+use Rattle.open_steps.specs.{Pendings.asPending, Decisions.asDecision}
 use Rattle.complete.proofs.complete.Statement.{statement}
+use Rattle.complete.specs.Placing.{TakesFreeRow}
 use Rattle.complete.proofs.complete.Tie as tie
-use Rattle.complete.proofs.complete.Reads as reads
-use Rattle.complete.proofs.complete.Lts as lts
-use Rattle.complete.proofs.complete_existing.Reads as complete-existing-reads
-use Rattle.complete.proofs.complete_file.Reads as complete-file-reads
-use Rattle.complete.proofs.complete_stream.Reads as complete-stream-reads
-
-enum-known-pending : tie.Need-enum-known-pending
-enum-known-pending c = search needs
-
-enum-known-pending-2 : tie.Need-enum-known-pending-2
-enum-known-pending-2 c = search needs
-
-complete-existing-requires : tie.Need-complete-existing-requires
-complete-existing-requires c κs = search needs
-
-enum-known-pending-3 : tie.Need-enum-known-pending-3
-enum-known-pending-3 c = search needs
-
-complete-stream-requires : tie.Need-complete-stream-requires
-complete-stream-requires c κs = search needs
-
-enum-known-pending-4 : tie.Need-enum-known-pending-4
-enum-known-pending-4 c = search needs
-
-complete-file-requires : tie.Need-complete-file-requires
-complete-file-requires c κs = search needs
 
 returns : tie.Need-returns
-returns c = ?
+unfolding asDecision asPending TakesFreeRow _>>=_
+returns c = record { is = rw (c .before .pending .given .1); row = tt }
 
 returns-2 : tie.Need-returns-2
-returns-2 c = ?
+unfolding asPending _>>=_
+returns-2 c = let p = c .before .before in rw (p .pending2 .given .1) (c .complete-existing .ensures (p .before .before .before .before .args .path .now))
 
 returns-3 : tie.Need-returns-3
-returns-3 c = ?
+unfolding asPending _>>=_
+returns-3 c = let p = c .before .before in rw (p .pending3 .given .1) (c .complete-stream .ensures (p .before .before .before .before .args .path .now))
 
 returns-4 : tie.Need-returns-4
-returns-4 c = ?
+unfolding asPending _>>=_
+returns-4 c = let p = c .before .before in rw (p .pending4 .given .1) (c .complete-file .ensures)
 
 pub complete-spec : {M : Type 1} → statement M
 complete-spec =
     tie.close
     (tie.spec
-    enum-known-pending
-    enum-known-pending-2
-    complete-existing-requires
-    enum-known-pending-3
-    complete-stream-requires
-    enum-known-pending-4
-    complete-file-requires
+    (λ c. search needs)
+    (λ c. search needs)
+    (λ c κs. search needs)
+    (λ c. search needs)
+    (λ c κs. search needs)
+    (λ c. search needs)
+    (λ c κs. search needs)
     returns
     returns-2
     returns-3

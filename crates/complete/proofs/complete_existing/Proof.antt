@@ -1,55 +1,60 @@
-use borrow.Author.Needs.{needs}
+-- `complete::complete_existing` meets its contract: the sharing check comes first, then step 10's end.
+use Rattle.base.{specs.Base.{_≡_, namespace, _>>=_, _>>_, refuseIf}, proofs.Laws.{sym, _∙_, needs, test-refuses}}
+use Rattle.layout.specs.Layout.{decode}
+use Rattle.open_steps.specs.{Pendings.{termsOver, asExisting}, Decisions.{asPlaced, asDecision}}
+use Rattle.store.specs.{Prepare.existing, Complete.{placeExisting, complete}, Store.storeView}
 use Rattle.complete.proofs.complete_existing.Statement.{statement}
+use Rattle.complete.specs.Placing.{asTerms, finished, TakesFreeRow}
 use Rattle.complete.proofs.complete_existing.Tie as tie
-use Rattle.complete.proofs.complete_existing.Reads as reads
-use Rattle.complete.proofs.complete_existing.Lts as lts
-use Rattle.complete.proofs.alone_if_asked.Reads as alone-if-asked-reads
-use Rattle.complete.proofs.finish.Reads as finish-reads
-use Rattle.complete.proofs.sharing_mode.Reads as sharing-mode-reads
-use Rattle.records_streams.proofs.read_counts.Reads as read-counts-reads
-use Rattle.sharing.proofs.share_check.Reads as share-check-reads
 
-read-counts-requires : tie.Need-read-counts-requires
-read-counts-requires c κs = search needs
+-- the sharing check
+checked : (k : tie.After-share-check) →
+    let a = k .before .before .before .before .before .args in
+    k .share-check .result ≡ storeView (decode (a .b .now)) .conflicts (a .e .stream) (termsOver (a .e .granted) (a .e .share))
+unfolding storeView
+checked k = rw (← k .before .read-counts .ensures) (k .share-check .ensures)
 
-share-check-requires : tie.Need-share-check-requires
-share-check-requires c κs = search needs
+-- past it: step 10's end, and step 12
+past : (m : tie.After-sharing-mode) →
+    let a = m .before .before .before .before .before .before .before .before .args in
+    let view = storeView (decode (a .b .now)) in
+    let ns = namespace (decode (a .b .now) .volume) in
+    complete view ns (existing (asExisting (a .e)))
+    ≡ (asTerms (a .e .granted) (m .sharing-mode .result) >>= finished view (a .e .action) (placeExisting ns (asExisting (a .e))))
+unfolding complete asExisting finished storeView refuseIf _>>_
+past m =
+    let alone = m .before in
+    let passes = alone .before in
+    rw (← checked (passes .before), passes .if1 .left, ← alone .alone-if-asked .ensures _, ← m .sharing-mode .ensures _)
 
 returns : tie.Need-returns
-returns c = ?
-
-alone-if-asked-requires : tie.Need-alone-if-asked-requires
-alone-if-asked-requires c κs = search needs
-
-sharing-mode-requires : tie.Need-sharing-mode-requires
-sharing-mode-requires c κs = search needs
-
-enum-known-sharing : tie.Need-enum-known-sharing
-enum-known-sharing c = search needs
-
-enum-known-sharing-2 : tie.Need-enum-known-sharing-2
-enum-known-sharing-2 c = search needs
-
-finish-requires : tie.Need-finish-requires
-finish-requires c κs = search needs
+unfolding asDecision asExisting complete TakesFreeRow
+returns c path =
+    record { is = sym (test-refuses _ _ (sym (checked (c .before)) ∙ c .if1 .taken)); row = tt }
 
 returns-2 : tie.Need-returns-2
-returns-2 c = ?
+unfolding asDecision asTerms TakesFreeRow _>>=_
+returns-2 c path =
+    let m = c .before in
+    record { is = sym (rw (m .sharing .given .1) at (past (m .before .before))); row = tt }
 
 returns-3 : tie.Need-returns-3
-returns-3 c = ?
+unfolding asPlaced asExisting placeExisting asTerms _>>=_
+returns-3 c path =
+    let m = c .before .before in
+    rw (past (m .before .before), m .sharing2 .given .1) (c .finish .ensures path)
 
 pub complete-existing-spec : {M : Type 1} → statement M
 complete-existing-spec =
     tie.close
     (tie.spec
-    read-counts-requires
-    share-check-requires
+    (λ c κs. search needs)
+    (λ c κs. search needs)
     returns
-    alone-if-asked-requires
-    sharing-mode-requires
-    enum-known-sharing
-    enum-known-sharing-2
-    finish-requires
+    (λ c κs. search needs)
+    (λ c κs. search needs)
+    (λ c. search needs)
+    (λ c. search needs)
+    (λ c κs. search needs)
     returns-2
     returns-3)

@@ -1,82 +1,90 @@
-use borrow.Author.Needs.{needs}
+-- `complete::file_place` meets its contract: the searches in the definition's order.
+use Rattle.base.{specs.Base._>>=_, proofs.Laws.needs}
+use Rattle.free_slots.specs.Free.{fileSlot, linkSlot, streamSlot}
 use Rattle.complete.proofs.file_place.Statement.{statement}
+use Rattle.complete.specs.Placing.{fileSlots, asFilePlace}
 use Rattle.complete.proofs.file_place.Tie as tie
-use Rattle.complete.proofs.file_place.Reads as reads
-use Rattle.complete.proofs.file_place.Lts as lts
-use Rattle.complete.proofs.opened_slot.Reads as opened-slot-reads
-use Rattle.free_slots.proofs.free_file.Reads as free-file-reads
-use Rattle.free_slots.proofs.free_link.Reads as free-link-reads
-use Rattle.free_slots.proofs.free_stream.Reads as free-stream-reads
-
-free-file-requires : tie.Need-free-file-requires
-free-file-requires c κs = search needs
-
-enum-known-file-slot : tie.Need-enum-known-file-slot
-enum-known-file-slot c = search needs
-
-enum-told : tie.Need-enum-told
-enum-told c = search needs
 
 returns : tie.Need-returns
-returns c = ?
-
-free-link-requires : tie.Need-free-link-requires
-free-link-requires c κs = search needs
-
-enum-known-link-slot : tie.Need-enum-known-link-slot
-enum-known-link-slot c = search needs
-
-enum-told-2 : tie.Need-enum-told-2
-enum-told-2 c = search needs
+unfolding fileSlots asFilePlace fileSlot _>>=_
+returns c = rw (← c .before .before .free-file .ensures, c .enum-told .given .1)
 
 returns-2 : tie.Need-returns-2
-returns-2 c = ?
-
-free-stream-requires : tie.Need-free-stream-requires
-free-stream-requires c κs = search needs
-
-enum-known-first : tie.Need-enum-known-first
-enum-known-first c = search needs
-
-enum-told-3 : tie.Need-enum-told-3
-enum-told-3 c = search needs
+unfolding fileSlots asFilePlace fileSlot linkSlot _>>=_
+returns-2 c =
+    let l = c .before .before in
+    let f = l .before .before in
+    rw (← f .before .before .free-file .ensures, f .file-slot .given .1, ← l .free-link .ensures, c .enum-told2 .given .1)
 
 returns-3 : tie.Need-returns-3
-returns-3 c = ?
-
-opened-slot-requires : tie.Need-opened-slot-requires
-opened-slot-requires c κs = search needs
-
-enum-known-second : tie.Need-enum-known-second
-enum-known-second c = search needs
-
-enum-told-4 : tie.Need-enum-told-4
-enum-told-4 c = search needs
+unfolding fileSlots asFilePlace fileSlot linkSlot streamSlot _>>=_
+returns-3 c =
+    let s = c .before .before in
+    let l = s .before .before in
+    let f = l .before .before .before .before in
+    rw (
+      ← f .before .before .free-file .ensures,
+      f .file-slot .given .1,
+      ← l .before .before .free-link .ensures,
+      l .link-slot .given .1,
+      ← s .free-stream .ensures,
+      c .enum-told3 .given .1,
+    )
 
 returns-4 : tie.Need-returns-4
-returns-4 c = ?
+unfolding fileSlots asFilePlace fileSlot linkSlot streamSlot _>>=_
+returns-4 c =
+    let o = c .before .before in
+    let s = o .before .before in
+    let l = s .before .before .before .before in
+    let f = l .before .before .before .before in
+    rw (
+      ← f .before .before .free-file .ensures,
+      f .file-slot .given .1,
+      ← l .before .before .free-link .ensures,
+      l .link-slot .given .1,
+      ← s .before .before .free-stream .ensures,
+      s .first .given .1,
+      ← o .opened-slot .ensures,
+      c .enum-told4 .given .1,
+    )
 
 returns-5 : tie.Need-returns-5
-returns-5 c = ?
+unfolding fileSlots asFilePlace fileSlot linkSlot streamSlot _>>=_
+returns-5 c =
+    let o = c .before in
+    let s = o .before .before .before .before in
+    let l = s .before .before .before .before in
+    let f = l .before .before .before .before in
+    rw (
+      ← f .before .before .free-file .ensures,
+      f .file-slot .given .1,
+      ← l .before .before .free-link .ensures,
+      l .link-slot .given .1,
+      ← s .before .before .free-stream .ensures,
+      s .first .given .1,
+      ← o .before .before .opened-slot .ensures,
+      o .second .given .1,
+    )
 
 pub file-place-spec : {M : Type 1} → statement M
 file-place-spec =
     tie.close
     (tie.spec
-    free-file-requires
-    enum-known-file-slot
-    enum-told
+    (λ c κs. search needs)
+    (λ c. search needs)
+    (λ c. search needs)
     returns
-    free-link-requires
-    enum-known-link-slot
-    enum-told-2
+    (λ c κs. search needs)
+    (λ c. search needs)
+    (λ c. search needs)
     returns-2
-    free-stream-requires
-    enum-known-first
-    enum-told-3
+    (λ c κs. search needs)
+    (λ c. search needs)
+    (λ c. search needs)
     returns-3
-    opened-slot-requires
-    enum-known-second
-    enum-told-4
+    (λ c κs. search needs)
+    (λ c. search needs)
+    (λ c. search needs)
     returns-4
     returns-5)

@@ -1,25 +1,23 @@
-use borrow.Author.Needs.{needs}
+-- `complete::finish` meets its contract, by the open's place.
+use Rattle.base.{specs.Base._>>=_, proofs.Laws.needs}
+use Rattle.open_steps.specs.Decisions.{asAccepted, asDecision}
 use Rattle.complete.proofs.finish.Statement.{statement}
+use Rattle.complete.specs.Placing.{asHandle, RowFree, finished, TakesFreeRow}
 use Rattle.complete.proofs.finish.Tie as tie
-use Rattle.complete.proofs.finish.Reads as reads
-use Rattle.complete.proofs.finish.Lts as lts
-use Rattle.complete.proofs.open_place.Reads as open-place-reads
-
-open-place-requires : tie.Need-open-place-requires
-open-place-requires c κs = search needs
-
-enum-known-place : tie.Need-enum-known-place
-enum-known-place c = search needs
-
-enum-known-place-2 : tie.Need-enum-known-place-2
-enum-known-place-2 c = search needs
 
 returns : tie.Need-returns
-returns c = ?
+unfolding asDecision asHandle finished TakesFreeRow _>>=_
+returns c path =
+    let p = c .before in
+    record { is = rw (← p .before .before .open-place .ensures .is, p .place .given .1); row = tt }
 
 returns-2 : tie.Need-returns-2
-returns-2 c = ?
+unfolding asDecision asAccepted asHandle RowFree finished TakesFreeRow _>>=_
+returns-2 c path =
+    let p = c .before in
+    let e = p .before .before .open-place .ensures in
+    record { is = rw (← e .is, p .place2 .given .1); row = rw (p .place2 .given .1) at (e .row) }
 
 pub finish-spec : {M : Type 1} → statement M
 finish-spec =
-    tie.close (tie.spec open-place-requires enum-known-place enum-known-place-2 returns returns-2)
+    tie.close (tie.spec (λ c κs. search needs) (λ c. search needs) (λ c. search needs) returns returns-2)

@@ -1,25 +1,20 @@
-use borrow.Author.Needs.{needs}
+-- `complete::opened_slot` meets its contract.
+use Rattle.base.proofs.Laws.{needs}
+use native.Mathlib.Numerals.{add-one}
+use Rattle.free_slots.specs.Free.{streamSlot}
 use Rattle.complete.proofs.opened_slot.Statement.{statement}
+use Rattle.complete.specs.Placing.{openedSlot}
 use Rattle.complete.proofs.opened_slot.Tie as tie
-use Rattle.complete.proofs.opened_slot.Reads as reads
-use Rattle.complete.proofs.opened_slot.Lts as lts
-use Rattle.free_slots.proofs.free_stream.Reads as free-stream-reads
-
-cast-free-stream : tie.Need-cast-free-stream
-cast-free-stream c = search needs
-
-add-free-stream : tie.Need-add-free-stream
-add-free-stream c = search needs
-
-free-stream-requires : tie.Need-free-stream-requires
-free-stream-requires c κs = search needs
 
 returns : tie.Need-returns
-returns c = ?
+unfolding openedSlot
+returns c = rw (c .before .before .if1 .taken, ← add-one) (c .free-stream .ensures)
 
 returns-2 : tie.Need-returns-2
-returns-2 c = ?
+unfolding streamSlot openedSlot
+returns-2 c = rw (c .if1 .left)
 
 pub opened-slot-spec : {M : Type 1} → statement M
 opened-slot-spec =
-    tie.close (tie.spec cast-free-stream add-free-stream free-stream-requires returns returns-2)
+    tie.close
+    (tie.spec (λ c. search needs) (λ c. search needs) (λ c κs. search needs) returns returns-2)
