@@ -1,0 +1,58 @@
+-- `target::target_data` meets its contract.
+use Rattle.base.{specs.Base.{_≡_, Option, _>>_, refuseIf, namespace, StreamNo}, proofs.Laws.{sym, _∙_, needs, eq-eqb, ne-eqb}}
+use Rattle.components.specs.Positions.{partOf}
+use Rattle.layout.specs.Layout.{decode}
+use Rattle.open_steps.specs.Targets.{asTarget}
+use Rattle.store.specs.Target.{targetData}
+use Rattle.stream_lookup.specs.{StreamLookup.{findStream, foundStream}, declared.FoundStream.FoundStream}
+use Rattle.target.proofs.{Streams.{stream-at, stream-missing}, target_data.Statement.statement}
+use Rattle.target.proofs.target_data.Tie as tie
+
+-- the definition's search, by what the code's found
+module _ (f : tie.After-find-stream) where
+  abbrev sought : Option StreamNo
+  sought =
+      let a = f .before .before .before .before .before .before .args in
+      findStream (namespace (decode (a .b .now) .volume)) (a .r .fold) (a .at .file) (partOf (a .path .now) (a .leaf .stream))
+
+  found : {x : FoundStream} → f .find-stream .result ≡ x → foundStream sought ≡ x
+  found e =
+      rw (← f .before .part-of .ensures) (sym (f .find-stream .ensures) ∙ e)
+
+returns : tie.Need-returns
+unfolding asTarget targetData refuseIf _>>_
+returns c =
+    let k = c .before .before .before in
+    rw (stream-at _ (found (k .before .before) (k .found .given .1)), eq-eqb _ _ (c .if1 .taken))
+
+returns-2 : tie.Need-returns-2
+unfolding asTarget targetData refuseIf _>>_
+returns-2 c =
+    let k = c .before .before in
+    rw (stream-missing _ (found (k .before .before) (k .enum-told .given .1)), ← c .before .adds-nothing .ensures, c .if2 .taken)
+
+returns-3 : tie.Need-returns-3
+unfolding asTarget targetData refuseIf _>>_
+returns-3 c =
+    let k = c .before .before .before in
+    rw (stream-at _ (found (k .before .before) (k .found .given .1)), ne-eqb _ _ (c .if1 .left))
+
+returns-4 : tie.Need-returns-4
+unfolding asTarget targetData refuseIf _>>_
+returns-4 c =
+    let k = c .before .before in
+    rw (stream-missing _ (found (k .before .before) (k .enum-told .given .1)), ← c .before .adds-nothing .ensures, c .if2 .left)
+
+pub target-data-spec : {M : Type 1} → statement M
+target-data-spec =
+    tie.close
+    (tie.spec
+    (λ c κs. search needs)
+    (λ c κs. search needs)
+    (λ c. search needs)
+    returns
+    (λ c. search needs)
+    (λ c κs. search needs)
+    returns-2
+    returns-3
+    returns-4)
