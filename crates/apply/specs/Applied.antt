@@ -1,11 +1,11 @@
 -- What the writes of a decided call leave.
-use Rattle.base.specs.Base.{ℕ, suc, _≡_, List, [], _∷_, length, set, fileNameLimit, streamNameLimit, lastHandle, zeroOpen, Tables, LinkNo, StreamNo, Link, BareStream, Open, Volume}
+use Rattle.base.specs.Base.{ℕ, suc, _≡_, List, length, set, fileNameLimit, streamNameLimit, lastHandle, zeroOpen, withCounts, Tables, LinkNo, StreamNo, Link, BareStream, Open}
 use Prim.Native.Nat.{min}
 use Rattle.codecs.specs.Codec.{Each}
-use Rattle.layout.specs.Layout.{tablesSize, Changed}
+use Rattle.layout.specs.{Layout.{tablesSize, Changed}, Puts.putStream}
 use Rattle.sharing.specs.{Sharing.withoutOpen, Saturating.{countLimit, withOpenUpTo}}
-use Rattle.store.specs.{Complete.{Change, Placed, Decision, newOpen}, Store.{changedVolume, recount}}
-use Rattle.tables.specs.Tables.{rowAt}
+use Rattle.store.specs.{Complete.{Change, Placed, Decision, newOpen}, Store.{writeStreams, changedVolume, recount}}
+use Rattle.tables.specs.Tables.{streamAt, rowAt}
 
 -- the handle after this one; the last stays
 unfoldable pub raised : ℕ → ℕ
@@ -16,10 +16,32 @@ pub record Writes (l m : List ℕ) (Room : Type 0) (t : Tables) : Type 0 where
   pub long : length m ≡ tablesSize
   pub changed : Room → Changed l m t
 
--- the names that a change stores are as long as their places
+-- the names that are stored are as long as their places
+abbrev pub StreamNames : List (StreamNo × BareStream) → Type 0
+StreamNames ws = Each (λ (w : StreamNo × BareStream). length (w .1 .name) ≡ streamNameLimit) ws
+
 pub record StoredNames (c : Change) : Type 0 where
   pub links : Each (λ (w : LinkNo × Link). length (w .1 .name) ≡ fileNameLimit) (c .links)
-  pub streams : Each (λ (w : StreamNo × BareStream). length (w .1 .name) ≡ streamNameLimit) (c .streams)
+  pub streams : StreamNames (c .streams)
+
+-- the tables with streams written, each in a slot that keeps its share counts
+abbrev pub putBare : Tables → StreamNo → BareStream → Tables
+putBare t n s = putStream t n (withCounts s (streamAt (t .volume .streams) n .counts))
+
+abbrev pub putStreams : Tables → List (StreamNo × BareStream) → Tables
+putStreams t ws =
+    let v = t .volume in
+    record {
+      volume =
+          record {
+            «read_only» = v .«read_only»;
+            «next_handle» = v .«next_handle»;
+            files = v .files;
+            links = v .links;
+            streams = writeStreams ws (v .streams);
+          };
+      opens = t .opens;
+    }
 
 -- the tables with a change beside the opens
 abbrev pub placedIn : Tables → Placed → Tables

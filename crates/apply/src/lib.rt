@@ -15,7 +15,6 @@ use records::Link;
 use records::Open;
 use records::Stream;
 use records::StreamNo;
-use records::sizes::FILE_NAME_LIMIT;
 use records::slots::ZERO_OPEN;
 use records_files::read_file;
 use records_files::write_file;
@@ -28,23 +27,24 @@ use records_streams::write_stream;
 use records_volume::write_next;
 use sharing::with_open;
 use sharing::without_open;
+use stored_names::stored_name;
 ghost use Prim.Native.Nat.{ℕ};
 ghost use mathlib.Core.Path.{_≡_};
 ghost use mathlib.Core.List.{List};
-ghost use lib.ListN.{length, take};
+ghost use lib.ListN.{length};
 ghost use Rattle.lists.specs.Lists.{padded};
 ghost use Rattle.records.specs.Sizes.{fileNameLimit, streamNameLimit};
-ghost use Rattle.records.specs.Namespace.{Namespace, namespace, withCounts};
+ghost use Rattle.records.specs.Namespace.{Namespace, namespace};
 ghost use Rattle.layout.specs.Layout.{tablesSize, decode, Changed};
-ghost use Rattle.layout.specs.Puts.{putFile, putLink, putStream};
-ghost use Rattle.tables.specs.Tables.{fileAt, streamAt};
+ghost use Rattle.layout.specs.Puts.{putFile, putLink};
+ghost use Rattle.tables.specs.Tables.{fileAt};
 ghost use Rattle.store.specs.Complete.{withAttributes, streamNew, linkNew};
 ghost use Rattle.components.specs.Positions.{partOf};
 ghost use Rattle.open_steps.specs.declared.PlacedOpen.the-variants as Place;
-ghost use Rattle.open_steps.specs.Decisions.{asPlaced, asAccepted};
-ghost use Rattle.apply.specs.Applied.{raised, Writes, StoredNames, placedIn, openStored, applied, struckFrom};
+ghost use Rattle.open_steps.specs.Decisions.{streamsAdded, asPlaced, asAccepted};
+ghost use Rattle.apply.specs.Applied.{raised, Writes, StreamNames, StoredNames, putBare, putStreams, placedIn, openStored, applied, struckFrom};
 
-// The handle after this one; the last has none.
+// The handle after this one; the last stays.
 fn raised(h: Handle) -> Handle
     ensures { λ r. ⌜ r .0 ≡ raised (h .0) ⌝ }
 {
@@ -53,19 +53,6 @@ fn raised(h: Handle) -> Handle
     } else {
         h
     }
-}
-
-// A name as it is stored: zeros after its units, and no more places than there are.
-fn stored_name(name: &[u16]) -> [u16; FILE_NAME_LIMIT]
-    ensures { λ r. ⌜ r ≡ take fileNameLimit (padded fileNameLimit (now (name .entry))) ⌝ }
-{
-    let mut stored = [0u16; FILE_NAME_LIMIT];
-    let mut i = 0;
-    while i < FILE_NAME_LIMIT && i < name.len() {
-        stored[i] = name[i];
-        i += 1;
-    }
-    stored
 }
 
 // A file's new attributes.
@@ -91,7 +78,7 @@ fn write_attributes(b: &mut [u8], file: FileNo, attributes: u32)
 fn write_new_stream(b: &mut [u8], n: StreamNo, file: FileNo, stream_type: FileType, name: &[u16])
     requires { ⌜ length (now b) ≡ tablesSize ⌝ }
     ensures { λ _. ⌜ Writes (now (b .entry)) (now (b .exit)) (length (padded streamNameLimit (now (name .entry))) ≡ streamNameLimit)
-        (putStream (decode (now (b .entry))) n (withCounts (streamNew file «stream_type» (now (name .entry))) (streamAt (decode (now (b .entry)) .volume .streams) n .counts))) ⌝ }
+        (putBare (decode (now (b .entry))) n (streamNew file «stream_type» (now (name .entry)))) ⌝ }
 {
     let stored = stored_name(name);
     let counts = read_counts(b, n);
@@ -107,7 +94,7 @@ fn write_new_stream(b: &mut [u8], n: StreamNo, file: FileNo, stream_type: FileTy
     );
 }
 
-// What was placed.
+// A stream added to a file, whose attributes become these.
 fn write_stream_added(b: &mut [u8], path: &[u16], s: StreamToAdd, n: StreamNo)
     requires { ⌜ length (now b) ≡ tablesSize ⌝ }
     ensures { λ _. ⌜ Writes (now (b .entry)) (now (b .exit)) (StoredNames (asPlaced (namespace (decode (now (b .entry)) .volume)) (now (path .entry)) (Place.NewStream s n) .change))
@@ -120,6 +107,7 @@ fn write_stream_added(b: &mut [u8], path: &[u16], s: StreamToAdd, n: StreamNo)
     write_new_stream(b, n, file, FileType::Data, part_of(path, name));
 }
 
+// The link of a new file.
 fn write_link_added(b: &mut [u8], path: &[u16], f: FileToAdd, at: FileSlots)
     requires { ⌜ length (now b) ≡ tablesSize ⌝ }
     ensures { λ _. ⌜ Writes (now (b .entry)) (now (b .exit)) (length (padded fileNameLimit (partOf (now (path .entry)) (f .leaf .file))) ≡ fileNameLimit)
@@ -141,6 +129,25 @@ fn write_link_added(b: &mut [u8], path: &[u16], f: FileToAdd, at: FileSlots)
     );
 }
 
+// The streams of a new file: the one without a name, and the one that the path names.
+fn write_file_streams(b: &mut [u8], path: &[u16], f: FileToAdd, at: FileSlots)
+    requires { ⌜ length (now b) ≡ tablesSize ⌝ }
+    ensures { λ _. ⌜ Writes (now (b .entry)) (now (b .exit)) (StreamNames (streamsAdded (now (path .entry)) f at))
+        (putStreams (decode (now (b .entry))) (streamsAdded (now (path .entry)) f at)) ⌝ }
+{
+    let file = at.file;
+    let file_type = f.file_type;
+    let leaf = f.leaf;
+    let part = leaf.stream;
+    let none = [0u16; 0];
+    write_new_stream(b, at.unnamed, file, file_type, &none);
+    let name = part_of(path, part);
+    if name.len() != 0 {
+        write_new_stream(b, at.opened, file, file_type, name);
+    }
+}
+
+// A file added to a directory, of which it copies the masks.
 fn write_file_added(b: &mut [u8], path: &[u16], f: FileToAdd, at: FileSlots)
     requires { ⌜ length (now b) ≡ tablesSize ⌝ }
     ensures { λ _. ⌜ Writes (now (b .entry)) (now (b .exit)) (StoredNames (asPlaced (namespace (decode (now (b .entry)) .volume)) (now (path .entry)) (Place.NewFile f at) .change))
@@ -149,12 +156,9 @@ fn write_file_added(b: &mut [u8], path: &[u16], f: FileToAdd, at: FileSlots)
     let parent = read_file(b, f.dir);
     let masks = parent.masks;
     let file_type = f.file_type;
-    let file = at.file;
-    let leaf = f.leaf;
-    let name = leaf.stream;
     write_file(
         b,
-        file,
+        at.file,
         File {
             file_type,
             attributes: f.attributes,
@@ -162,13 +166,10 @@ fn write_file_added(b: &mut [u8], path: &[u16], f: FileToAdd, at: FileSlots)
         },
     );
     write_link_added(b, path, f, at);
-    let none = [0u16; 0];
-    write_new_stream(b, at.unnamed, file, file_type, &none);
-    if part_of(path, name).len() != 0 {
-        write_new_stream(b, at.opened, file, file_type, part_of(path, name));
-    }
+    write_file_streams(b, path, f, at);
 }
 
+// What an accepted open changes or adds.
 fn write_placed(b: &mut [u8], path: &[u16], placed: PlacedOpen)
     requires { ⌜ length (now b) ≡ tablesSize ⌝ }
     ensures { λ _. ⌜ Writes (now (b .entry)) (now (b .exit)) (StoredNames (asPlaced (namespace (decode (now (b .entry)) .volume)) (now (path .entry)) placed .change))

@@ -1,8 +1,30 @@
--- A valid name as it is stored, with zeros after it: its units are the name again, and it is well stored.
-use Rattle.base.{specs.Base.{ℕ, zero, suc, _-_, _≡_, true, not, _&&_, List, [], _∷_, _++_, _≢_, leb, length, getD, replicate, all, isEmpty, same, padded}, proofs.Laws.{refl, ap, false≢true, arith, and-right, same-self}}
+-- A name as it is stored, with zeros after it. A valid one's units are the name again, and it is well stored.
+use Rattle.base.{specs.Base.{ℕ, zero, suc, _-_, _<_, _≡_, true, not, _&&_, List, [], _∷_, _++_, _≢_, leb, length, getD, take, replicate, all, isEmpty, same, padded}, proofs.Laws.{refl, _∙_, ap, false≢true, arith, length-take, length-replicate, take-all, and-right, same-self}}
+use lib.{ListN.length-append, Seq.getD-take}
 use Rattle.names.specs.Names.{validUnit, validFileName, validStreamName}
 use Rattle.units.specs.Units.{dot}
 use Rattle.stored_names.specs.StoredNames.{units, wellStored}
+
+-- the places up to a limit: the name's units, and zeros after them
+zeros-after : (n : List ℕ) (k i : ℕ) → getD (n ++ replicate k 0) i 0 ≡ getD n i 0
+zeros-after [] zero i = refl
+zeros-after [] (suc k) zero = refl
+zeros-after [] (suc k) (suc i) = zeros-after [] k i
+zeros-after (u ∷ us) k zero = refl
+zeros-after (u ∷ us) k (suc i) = zeros-after us k i
+
+module _ (limit : ℕ) (n : List ℕ) where
+  pub places-count : length (take limit (padded limit n)) ≡ limit
+  unfolding padded
+  places-count = simp (length-take, length-append, length-replicate) (omega arith)
+
+  pub places-at : (i : ℕ) → i < limit → getD (take limit (padded limit n)) i 0 ≡ getD n i 0
+  unfolding padded
+  places-at i h = getD-take limit (padded limit n) i 0 h ∙ zeros-after n (limit - length n) i
+
+  -- a name with room is stored whole
+  pub places-all : length (padded limit n) ≡ limit → take limit (padded limit n) ≡ padded limit n
+  places-all e = take-all limit (padded limit n) (omega arith)
 
 -- a valid name's units are valid, each for itself
 pub file-name-units : (limit : ℕ) (n : List ℕ) → validFileName limit n ≡ true → all validUnit n ≡ true

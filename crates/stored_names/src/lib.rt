@@ -1,9 +1,11 @@
 // Names as they stand in a record, zeros after the last unit. A name is lent, whatever its places.
+use records::sizes::FILE_NAME_LIMIT;
 use units::folded_unit;
 ghost use mathlib.Core.Path.{_≡_};
 ghost use lib.Dec.{eqb};
-ghost use lib.ListN.{length, getD, drop, replicate};
-ghost use Rattle.lists.specs.Lists.{all, same};
+ghost use lib.ListN.{length, getD, take, drop, replicate};
+ghost use Rattle.lists.specs.Lists.{all, same, padded};
+ghost use Rattle.records.specs.Sizes.{fileNameLimit};
 ghost use Rattle.units.specs.Units.{equalUnits};
 ghost use Rattle.stored_names.specs.StoredNames.{units, wellStored};
 
@@ -12,6 +14,19 @@ fn unit_at(name: &[u16], at: usize) -> u16
     ensures { λ r. ⌜ r ≡ getD (now (name .entry)) at 0 ⌝ }
 {
     if at < name.len() { name[at] } else { 0 }
+}
+
+// A name as it is stored: zeros after its units, and no more places than a record has.
+pub fn stored_name(name: &[u16]) -> [u16; FILE_NAME_LIMIT]
+    ensures { λ r. ⌜ r ≡ take fileNameLimit (padded fileNameLimit (now (name .entry))) ⌝ }
+{
+    let mut stored = [0u16; FILE_NAME_LIMIT];
+    let mut i = 0;
+    while i < FILE_NAME_LIMIT {
+        stored[i] = unit_at(name, i);
+        i += 1;
+    }
+    stored
 }
 
 // Whether a stored name matches a part of a path. The first difference settles it.

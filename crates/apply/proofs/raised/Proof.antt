@@ -1,17 +1,16 @@
-use borrow.Author.Needs.{needs}
+-- `apply::raised` meets its contract: below the last handle one more, else the last.
+use Rattle.base.proofs.Laws.{arith, needs}
+use Rattle.apply.specs.Applied.{raised}
 use Rattle.apply.proofs.raised.Statement.{statement}
 use Rattle.apply.proofs.raised.Tie as tie
-use Rattle.apply.proofs.raised.Reads as reads
-use Rattle.apply.proofs.raised.Lts as lts
-
-add-t4 : tie.Need-add-t4
-add-t4 c = search needs
 
 returns : tie.Need-returns
-returns c = ?
+unfolding raised
+returns c = omega arith
 
 returns-2 : tie.Need-returns-2
-returns-2 c = ?
+unfolding raised
+returns-2 c = omega arith
 
 pub raised-spec : {M : Type 1} → statement M
-raised-spec = tie.close (tie.spec add-t4 returns returns-2)
+raised-spec = tie.close (tie.spec (λ c. search needs) returns returns-2)

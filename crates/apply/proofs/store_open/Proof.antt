@@ -1,48 +1,36 @@
-use borrow.Author.Needs.{needs}
+-- `apply::store_open` meets its contract: the counts, the row, the next handle.
+use Rattle.base.{specs.Base.{bare, withCounts, Tables}, proofs.Laws.needs}
+use Rattle.layout.specs.Puts.{putOpen, putNext}
+use Rattle.store.specs.Store.{recount}
+use Rattle.tables.specs.Tables.{streamAt}
+use Rattle.apply.specs.Applied.{raised, openStored}
+use Rattle.apply.proofs.Chains.{changed-then}
 use Rattle.apply.proofs.store_open.Statement.{statement}
 use Rattle.apply.proofs.store_open.Tie as tie
-use Rattle.apply.proofs.store_open.Reads as reads
-use Rattle.apply.proofs.store_open.Lts as lts
-use Rattle.apply.proofs.raised.Reads as raised-reads
-use Rattle.records_opens.proofs.write_open.Reads as write-open-reads
-use Rattle.records_streams.proofs.read_counts.Reads as read-counts-reads
-use Rattle.records_streams.proofs.write_counts.Reads as write-counts-reads
-use Rattle.records_volume.proofs.write_next.Reads as write-next-reads
-use Rattle.sharing.proofs.with_open.Reads as with-open-reads
-
-read-counts-requires : tie.Need-read-counts-requires
-read-counts-requires c κs = search needs
-
-with-open-requires : tie.Need-with-open-requires
-with-open-requires c κs = search needs
-
-write-counts-requires : tie.Need-write-counts-requires
-write-counts-requires c κs = search needs
-
-write-open-requires : tie.Need-write-open-requires
-write-open-requires c κs = search needs
-
-raised-requires : tie.Need-raised-requires
-raised-requires c κs = search needs
-
-write-next-requires : tie.Need-write-next-requires
-write-next-requires c κs = search needs
-
-same-length : tie.Need-same-length
-same-length c = search needs
 
 returns : tie.Need-returns
-returns c = ?
+unfolding bare withCounts streamAt recount openStored
+returns c =
+    let next = c .before .before in
+    let row = next .before .before .before .before .before in
+    let counts = row .before .before .before .before in
+    let joined = counts .before .before in
+    let a = joined .before .before .before .before .before .before .args in
+    changed-then (λ (t : Tables). putNext t (record { 0 = raised (a .o .handle .0) }))
+    (changed-then (λ (t : Tables). putOpen t (a .row) (a .o))
+    (rw (joined .with-open .ensures, joined .before .read-counts .ensures) at (counts .write-counts .ensures))
+    (row .write-open .ensures))
+    (rw (next .before .raised .ensures) at (next .write-next .ensures))
 
 pub store-open-spec : {M : Type 1} → statement M
 store-open-spec =
     tie.close
     (tie.spec
-    read-counts-requires
-    with-open-requires
-    write-counts-requires
-    write-open-requires
-    raised-requires
-    write-next-requires
-    same-length
+    (λ c κs. search needs)
+    (λ c κs. search needs)
+    (λ c κs. search needs)
+    (λ c κs. search needs)
+    (λ c κs. search needs)
+    (λ c κs. search needs)
+    (λ c. search needs)
     returns)

@@ -1,43 +1,33 @@
-use borrow.Author.Needs.{needs}
+-- `apply::strike_open` meets its contract: the counts, then the row.
+use Rattle.base.{specs.Base.{bare, withCounts, zeroOpen, Tables}, proofs.Laws.needs}
+use Rattle.layout.specs.Puts.{putOpen}
+use Rattle.store.specs.Store.{recount}
+use Rattle.tables.specs.Tables.{streamAt}
+use Rattle.apply.specs.Applied.{struckFrom}
+use Rattle.apply.proofs.Chains.{changed-then}
 use Rattle.apply.proofs.strike_open.Statement.{statement}
 use Rattle.apply.proofs.strike_open.Tie as tie
-use Rattle.apply.proofs.strike_open.Reads as reads
-use Rattle.apply.proofs.strike_open.Lts as lts
-use Rattle.records_opens.proofs.read_open.Reads as read-open-reads
-use Rattle.records_opens.proofs.write_open.Reads as write-open-reads
-use Rattle.records_streams.proofs.read_counts.Reads as read-counts-reads
-use Rattle.records_streams.proofs.write_counts.Reads as write-counts-reads
-use Rattle.sharing.proofs.without_open.Reads as without-open-reads
-
-read-open-requires : tie.Need-read-open-requires
-read-open-requires c κs = search needs
-
-read-counts-requires : tie.Need-read-counts-requires
-read-counts-requires c κs = search needs
-
-without-open-requires : tie.Need-without-open-requires
-without-open-requires c κs = search needs
-
-write-counts-requires : tie.Need-write-counts-requires
-write-counts-requires c κs = search needs
-
-write-open-requires : tie.Need-write-open-requires
-write-open-requires c κs = search needs
-
-same-length : tie.Need-same-length
-same-length c = search needs
 
 returns : tie.Need-returns
-returns c = ?
+unfolding bare withCounts streamAt recount struckFrom
+returns c =
+    let row = c .before .before in
+    let counts = row .before .before .before .before in
+    let left = counts .before .before in
+    let o = left .before .before .before .before in
+    changed-then (λ (t : Tables). putOpen t (o .before .before .before .args .row) zeroOpen)
+    (rw (left .without-open .ensures, left .before .read-counts .ensures, o .read-open .ensures)
+    at (counts .write-counts .ensures))
+    (row .write-open .ensures)
 
 pub strike-open-spec : {M : Type 1} → statement M
 strike-open-spec =
     tie.close
     (tie.spec
-    read-open-requires
-    read-counts-requires
-    without-open-requires
-    write-counts-requires
-    write-open-requires
-    same-length
+    (λ c κs. search needs)
+    (λ c κs. search needs)
+    (λ c κs. search needs)
+    (λ c κs. search needs)
+    (λ c κs. search needs)
+    (λ c. search needs)
     returns)

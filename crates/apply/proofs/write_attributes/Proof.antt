@@ -1,23 +1,15 @@
-use borrow.Author.Needs.{needs}
+-- `apply::write_attributes` meets its contract: the file that is written is the one that was read, with other attributes.
+use Rattle.base.proofs.Laws.{needs}
+use Rattle.store.specs.Complete.{withAttributes}
 use Rattle.apply.proofs.write_attributes.Statement.{statement}
 use Rattle.apply.proofs.write_attributes.Tie as tie
-use Rattle.apply.proofs.write_attributes.Reads as reads
-use Rattle.apply.proofs.write_attributes.Lts as lts
-use Rattle.records_files.proofs.read_file.Reads as read-file-reads
-use Rattle.records_files.proofs.write_file.Reads as write-file-reads
-
-read-file-requires : tie.Need-read-file-requires
-read-file-requires c κs = search needs
-
-write-file-requires : tie.Need-write-file-requires
-write-file-requires c κs = search needs
-
-same-length : tie.Need-same-length
-same-length c = search needs
 
 returns : tie.Need-returns
-returns c = ?
+unfolding withAttributes
+returns c =
+    let write = c .before .before in
+    let read = write .before .before .before in
+    rw (read .read-file .ensures) at (write .write-file .ensures)
 
 pub write-attributes-spec : {M : Type 1} → statement M
-write-attributes-spec =
-    tie.close (tie.spec read-file-requires write-file-requires same-length returns)
+write-attributes-spec = tie.close (tie.spec (λ c κs. search needs) (λ c κs. search needs) (λ c. search needs) returns)
