@@ -1,34 +1,43 @@
-// The audit: whether the tables are consistent (the paper's soundness), decided table by table. The Volume is never
-// passed inside a loop, and names are compared only where parent or file agree.
+// The audit: whether lent bytes stand for consistent tables (the paper's soundness), decided table by table.
 use audit_conflicts::no_conflicts;
-use audit_counts::counts_true;
 use audit_files::files_consistent;
 use audit_links::links_consistent;
 use audit_opens::opens_consistent;
 use audit_streams::streams_consistent;
-use records::OpenTable;
-use records::Volume;
+use layout_stands::stands_for_tables;
 ghost use mathlib.Core.Path.{_≡_};
+ghost use lib.ListN.{length};
 ghost use Rattle.consistency.specs.Test.{consistent};
+ghost use Rattle.layout.specs.Layout.{tablesSize, decode};
+ghost use Rattle.audit.specs.Sound.{soundBytes};
 
 // Whether the tables are consistent.
-pub fn audit(v: Volume, t: OpenTable) -> bool
-    ensures { λ r. ⌜ r ≡ consistent v t ⌝ }
+fn tables_consistent(b: &[u8]) -> bool
+    requires { ⌜ length (now b) ≡ tablesSize ⌝ }
+    ensures { λ r. ⌜ r ≡ consistent (decode (now (b .entry)) .volume) (decode (now (b .entry)) .opens) ⌝ }
 {
-    if !files_consistent(v) {
+    if !files_consistent(b) {
         return false;
     }
-    if !links_consistent(v) {
+    if !links_consistent(b) {
         return false;
     }
-    if !streams_consistent(v) {
+    if !streams_consistent(b) {
         return false;
     }
-    if !opens_consistent(v, t) {
+    if !opens_consistent(b) {
         return false;
     }
-    if !counts_true(v, t) {
-        return false;
+    no_conflicts(b)
+}
+
+// Whether the bytes stand for consistent tables.
+pub fn audit(b: &[u8]) -> bool
+    ensures { λ r. ⌜ r ≡ soundBytes (now (b .entry)) ⌝ }
+{
+    if stands_for_tables(b) {
+        tables_consistent(b)
+    } else {
+        false
     }
-    no_conflicts(t)
 }

@@ -1,15 +1,19 @@
-// The audit of the files table.
+// The audit of the files table: each slot by itself, and the root.
 use masks::valid_masks;
 use masks::zero_masks;
 use records::File;
-use records::Volume;
+use records::FileNo;
 use records::constants::DIRECTORY;
 use records::constants::FILE_ATTRIBUTES;
 use records::sizes::FILE_SLOTS;
 use records::slots::file_used;
 use records::slots::is_directory;
+use records_files::read_file;
+use records_files::read_file_type;
 ghost use mathlib.Core.Path.{_≡_};
+ghost use lib.ListN.{length};
 ghost use Rattle.records.specs.Slots.{fileUsed};
+ghost use Rattle.layout.specs.Layout.{tablesSize, decode};
 ghost use Rattle.consistency.specs.Slots.{slotTest};
 ghost use Rattle.consistency.specs.Good.{goodFile, isZeroFile};
 ghost use Rattle.consistency.specs.Test.{filesTest};
@@ -48,17 +52,17 @@ fn slot_consistent(f: File) -> bool
 }
 
 // The root is a directory, and each slot passes.
-pub fn files_consistent(v: Volume) -> bool
-    ensures { λ r. ⌜ r ≡ filesTest (v .files) ⌝ }
+pub fn files_consistent(b: &[u8]) -> bool
+    requires { ⌜ length (now b) ≡ tablesSize ⌝ }
+    ensures { λ r. ⌜ r ≡ filesTest (decode (now (b .entry)) .volume .files) ⌝ }
 {
-    let root = v.files[0];
-    let t = root.file_type;
-    if !is_directory(t) {
+    let root = read_file_type(b, FileNo(0));
+    if !is_directory(root) {
         return false;
     }
     let mut i: usize = 0;
     while i < FILE_SLOTS {
-        let f = v.files[i];
+        let f = read_file(b, FileNo(i as u16));
         if !slot_consistent(f) {
             return false;
         }

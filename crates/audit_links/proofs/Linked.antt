@@ -26,7 +26,7 @@ module _ (up : List ℕ) where
   leads-past (suc steps) n z b = rw (ne-eqb n 0 z, leads, List·getD-eq-default up n b) (leads-past steps n z b)
 
 -- what links say of a file's number: how many name it, and its parent
-abbrev pub linksTo : ℕ → List Link → ℕ
+abbrev linksTo : ℕ → List Link → ℕ
 linksTo n ls = count (linkTo (record { 0 = n })) ls
 
 abbrev pub above : ℕ → List Link → ℕ

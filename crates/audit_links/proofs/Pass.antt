@@ -1,7 +1,7 @@
 -- The one pass over the links: each from place i on passes its test, has its key, and is noted by its file's number. And
 -- what the test of the whole table is at the end.
-use Rattle.base.{specs.Base.{ℕ, _+_, _-_, _≤_, _<_, _≡_, true, false, _&&_, List, length, getD, set, drop, replicate, all, allFrom, keep, pairs, fileSlots, linkSlots, linkUsed, zeroLink, File, Link}, proofs.Laws.{refl, sym, ap, _∙_, arith, length-drop, drop-of-length-le, eq-eqb, count-bound, numbered-same, Noted, Scanned, scan-none, scan-fails, scan-back, scan-end}}
-use Rattle.consistency.specs.{Relations.linkTo, Slots.slotsTest, Good.linkNamesDiffer, Test.{linksOfFile, linksTest}}
+use Rattle.base.{specs.Base.{ℕ, _+_, _-_, _≤_, _<_, _≡_, true, false, _&&_, List, length, getD, set, replicate, all, allFrom, keep, pairs, fileSlots, linkSlots, linkUsed, zeroLink, File, Link}, proofs.Laws.{refl, sym, ap, _∙_, arith, eq-eqb, numbered-same, count-room, count-ends, Noted, Scanned, scan-none, scan-fails, scan-back, scan-end}}
+use Rattle.consistency.specs.{Slots.slotsTest, Good.linkNamesDiffer, Test.{linksOfFile, linksTest}}
 use Rattle.distinct.specs.Keys.{isKey, differ}
 use Rattle.name_keys.proofs.Tell.{keyOf, names-told}
 use Rattle.audit_links.proofs.{Links.linkTest, Linked.linked-same, Noted.{fileOf, parent-in, LinksNoted, noted-none, noted-free, noted-used}}
@@ -14,7 +14,7 @@ linkKey = keyOf linkUsed (λ l. l .parent .0) (λ l. l .name)
 pub record Passed (fs : List File) (ls : List Link) (keys counts up : List ℕ) (i : ℕ) : Type 0 where
   pub size : length ls ≡ linkSlots
   pub scanned : Scanned (linkTest fs) linkKey ls keys i
-  pub noted : LinksNoted (drop i ls) counts up
+  pub noted : LinksNoted ls counts up i
 
 pub pass-none : {fs : List File} {ls : List Link} {up : List ℕ} → length ls ≡ linkSlots → length up ≡ fileSlots
     → Noted 0 fileSlots up (λ n. n) → Passed fs ls (replicate linkSlots 0) (replicate fileSlots 0) up linkSlots
@@ -22,7 +22,7 @@ pass-none {fs} {ls} {up} size long own =
     record {
       size = size;
       scanned = scan-none (linkTest fs) linkKey ls (replicate linkSlots 0) linkSlots refl size;
-      noted = rw (drop-of-length-le ls {i = linkSlots} (omega arith)) (noted-none up long own);
+      noted = noted-none ls up linkSlots (omega arith) long own;
     }
 
 module _ {fs : List File} {ls : List Link} {keys counts up : List ℕ} {i : ℕ} (passed : Passed fs ls keys counts up i) where
@@ -34,8 +34,7 @@ module _ {fs : List File} {ls : List Link} {keys counts up : List ℕ} {i : ℕ}
 
   -- a count is at most the links passed
   pub count-fits : (n : ℕ) → n < fileSlots → getD counts n 0 ≤ linkSlots
-  count-fits n b =
-      omega (arith, passed .noted .counted n b, count-bound (linkTo (record { 0 = n })) (drop i ls), length-drop i ls, passed .size)
+  count-fits n b = omega (arith, count-room _ fileSlots ls (passed .noted .counted) n b, passed .size)
 
   -- the link before those passed
   module _ (positive : 0 < i) {l : Link} (is : l ≡ getD ls (i - 1) zeroLink) where
@@ -84,11 +83,11 @@ module _ {fs : List File} {ls : List Link} {keys counts up : List ℕ} {i : ℕ}
     pub pass-ends : length fs ≡ fileSlots → pairs linkNamesDiffer (keep linkUsed ls) ≡ true
         → linksTest fs ls ≡ allFrom (fileLinked counts up) 0 fs
     pass-ends long h =
-        let noted : LinksNoted ls counts up = rw end at (passed .noted) in
+        let noted = passed .noted in
         links-test
         ∙ rw (all-pass, h)
         (sym
         (numbered-same (fileLinked counts up) (linksOfFile (keep linkUsed ls)) 0 fs
         (λ n b.
-        linked-same ls counts up (noted .parentsSize) (noted .counted) (noted .parents)
+        linked-same ls counts up (noted .parentsSize) (λ m c. count-ends _ fileSlots ls (noted .counted) m c end) (rw end at (noted .parents))
         (λ m c. omega (arith, parent-in fs ls all-pass (record { 0 = m }) (omega arith))) n (omega arith))))

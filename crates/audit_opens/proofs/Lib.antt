@@ -1,1 +1,2 @@
+pub mod CountsScan
 pub mod OpensScan

@@ -1,22 +1,37 @@
-// The audit of the open table: each row by itself, then the handles of every two used rows.
+// The audit of the open table, in one pass over it: each row by itself, its handle, and the share counts of its stream.
+// Then the handles, by their numbers, and the counts against those that the streams have. The pass goes from the last row
+// to the first, as each row comes in front of those counted.
+use bits::within;
+use distinct::distinct;
+use records::FileNo;
+use records::FileType;
 use records::Open;
-use records::OpenTable;
-use records::Stream;
-use records::Volume;
+use records::ShareCounts;
+use records::StreamNo;
 use records::constants::ALL_ACCESS;
 use records::constants::SHARE_ALL;
 use records::sizes::OPEN_SLOTS;
 use records::sizes::STREAM_SLOTS;
+use records::slots::ZERO_COUNTS;
+use records::slots::is_used;
 use records::slots::open_used;
-use records::slots::stream_used;
+use records_opens::read_open;
+use records_streams::read_counts;
+use records_streams::read_stream_file;
+use records_streams::read_stream_type;
+use records_volume::read_next;
+use sharing::with_open;
 ghost use mathlib.Core.Path.{_≡_};
-ghost use Rattle.lists.specs.Lists.{pairs};
-ghost use Rattle.records.specs.Slots.{openUsed};
-ghost use Rattle.records.specs.Namespace.{bare, namespace};
+ghost use mathlib.Core.Bool.{_&&_};
+ghost use mathlib.Core.List.{[]};
+ghost use lib.ListN.{length, getD};
+ghost use Rattle.lists.specs.Lists.{allFrom};
+ghost use Rattle.records.specs.Slots.{zeroCounts, openUsed};
+ghost use Rattle.records.specs.Namespace.{namespace};
+ghost use Rattle.layout.specs.Layout.{tablesSize, decode};
 ghost use Rattle.consistency.specs.Slots.{slotTest};
-ghost use Rattle.consistency.specs.Good.{goodOpen, isZeroOpen, handlesDiffer};
-ghost use Rattle.consistency.specs.Test.{opensTest};
-ghost use Rattle.tables.specs.Tables.{live};
+ghost use Rattle.consistency.specs.Good.{goodOpen, isZeroOpen};
+ghost use Rattle.consistency.specs.Test.{opensTest, sameCounts, countsTest};
 
 // What a free slot has beside its handle is zero.
 fn is_zero_open(o: Open) -> bool
@@ -25,78 +40,95 @@ fn is_zero_open(o: Open) -> bool
     (o.file.0 == 0) & (o.stream.0 == 0) & (o.granted == 0) & (o.share == 0)
 }
 
-// A used slot, with the stream that it names: the stream is used and its file is the open's, some access is granted and
-// none but what there is, the sharing mode is one, and the handle was given out.
-fn good_open(o: Open, s: Stream, next: u64) -> bool
-    ensures { λ r. ⌜ r ≡ goodOpen (bare s) next o ⌝ }
+// A used slot, with the kind and the file of the stream that it names: the stream is used and its file is the open's, some
+// access is granted and none but what there is, the sharing mode is one, and the handle was given out.
+fn good_open(o: Open, kind: FileType, file: FileNo, next: u64) -> bool
+    ensures { λ r. ⌜ r ≡ goodOpen (record { file = file; streamType = kind; name = [] }) next o ⌝ }
 {
-    stream_used(s)
-        & (o.file.0 == s.file.0)
+    is_used(kind)
+        & (o.file.0 == file.0)
         & (o.granted != 0)
-        & bits::within(o.granted, ALL_ACCESS)
+        & within(o.granted, ALL_ACCESS)
         & (o.share <= SHARE_ALL)
         & (o.handle.0 < next)
 }
 
-// A row by itself, with the stream that it names.
-fn row_consistent(o: Open, s: Stream, next: u64) -> bool
-    ensures { λ r. ⌜ r ≡ slotTest openUsed (goodOpen (bare s) next) isZeroOpen o ⌝ }
+// A row by itself, with the kind and the file of the stream that it names.
+fn row_consistent(o: Open, kind: FileType, file: FileNo, next: u64) -> bool
+    ensures { λ r. ⌜ r ≡ slotTest openUsed (goodOpen (record { file = file; streamType = kind; name = [] }) next) isZeroOpen o ⌝ }
 {
     if open_used(o) {
-        good_open(o, s, next)
+        good_open(o, kind, file, next)
     } else {
         is_zero_open(o)
     }
 }
 
-fn handles_differ(o: Open, q: Open) -> bool
-    ensures { λ r. ⌜ r ≡ handlesDiffer o q ⌝ }
+fn same_counts(c: ShareCounts, d: ShareCounts) -> bool
+    ensures { λ r. ⌜ r ≡ sameCounts c d ⌝ }
 {
-    o.handle.0 != q.handle.0
+    (c.opens == d.opens)
+        & (c.readers == d.readers)
+        & (c.writers == d.writers)
+        & (c.deleters == d.deleters)
+        & (c.shared_read == d.shared_read)
+        & (c.shared_write == d.shared_write)
+        & (c.shared_delete == d.shared_delete)
 }
 
-// Every two used rows.
-fn all_handles_differ(t: OpenTable) -> bool
-    ensures { λ r. ⌜ r ≡ pairs handlesDiffer (live (t .rows)) ⌝ }
+// Whether the streams have the counts that were found. An array of records is not lent, so it comes by value.
+fn counts_held(b: &[u8], counts: [ShareCounts; STREAM_SLOTS]) -> bool
+    requires { ⌜ length (now b) ≡ tablesSize ⌝ }
+    ensures { λ r.
+        ⌜ r ≡ allFrom (λ n s. sameCounts (s .counts) (getD counts n zeroCounts)) 0 (decode (now (b .entry)) .volume .streams) ⌝ }
 {
     let mut i: usize = 0;
-    while i < OPEN_SLOTS {
-        let o = t.rows[i];
-        if open_used(o) {
-            let mut j = i + 1;
-            while j < OPEN_SLOTS {
-                let q = t.rows[j];
-                if open_used(q) && !handles_differ(o, q) {
-                    return false;
-                }
-                j += 1;
-            }
+    while i < STREAM_SLOTS {
+        let kept = read_counts(b, StreamNo(i as u16));
+        let found = counts[i];
+        if !same_counts(kept, found) {
+            return false;
         }
         i += 1;
     }
     true
 }
 
-// A row that names no slot of the streams table is neither free nor consistent.
-pub fn opens_consistent(v: Volume, t: OpenTable) -> bool
-    ensures { λ r. ⌜ r ≡ opensTest (namespace v .streams) (v .«next_handle» .0) (t .rows) ⌝ }
+// A row that names no slot of the streams table fails: no stream is used there, and the row is not zero.
+pub fn opens_consistent(b: &[u8]) -> bool
+    requires { ⌜ length (now b) ≡ tablesSize ⌝ }
+    ensures { λ r.
+        let t = decode (now (b .entry)) in
+        let v = t .volume in
+        let rows = t .opens .rows in
+        ⌜ r ≡ (opensTest (namespace v .streams) (v .«next_handle» .0) rows && countsTest (v .streams) rows) ⌝ }
 {
-    let next = v.next_handle.0;
+    let next = read_next(b).0;
     if next == 0 {
         return false;
     }
-    let mut i: usize = 0;
-    while i < OPEN_SLOTS {
-        let o = t.rows[i];
-        let n = o.stream.0 as usize;
-        if STREAM_SLOTS <= n {
+    let mut keys = [0u64; OPEN_SLOTS];
+    let mut counts = [ZERO_COUNTS; STREAM_SLOTS];
+    let mut i: usize = OPEN_SLOTS;
+    while 0 < i {
+        i -= 1;
+        let o = read_open(b, i);
+        let stream = o.stream;
+        let kind = read_stream_type(b, stream);
+        let file = read_stream_file(b, stream);
+        if !row_consistent(o, kind, file, next) {
             return false;
         }
-        let s = v.streams[n];
-        if !row_consistent(o, s, next) {
-            return false;
+        keys[i] = o.handle.0;
+        let n = stream.0 as usize;
+        if open_used(o) && n < STREAM_SLOTS {
+            let before = counts[n];
+            let after = with_open(o, before);
+            counts[n] = after;
         }
-        i += 1;
     }
-    all_handles_differ(t)
+    if !distinct(&keys) {
+        return false;
+    }
+    counts_held(b, counts)
 }

@@ -1,1 +1,2 @@
-pub mod StreamsScan
+pub mod Streams
+pub mod Pass

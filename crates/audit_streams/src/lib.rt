@@ -1,61 +1,45 @@
-// The audit of the streams table: each stream by itself, then every two used streams, then the streams of each file.
+// The audit of the streams table, in one pass over it from the last stream to the first: each stream by itself, a key for
+// its name, and of each file how many streams it has and how many of them without a name. Then the names, by their keys, and
+// the streams of each file.
+use distinct::distinct;
+use name_keys::slot_key;
 use names::valid_stream_name;
-use records::File;
+use records::FileNo;
 use records::FileType;
 use records::Stream;
-use records::Volume;
+use records::StreamNo;
 use records::sizes::FILE_SLOTS;
 use records::sizes::STREAM_NAME_LIMIT;
 use records::sizes::STREAM_SLOTS;
-use records::slots::file_used;
 use records::slots::is_directory;
 use records::slots::is_used;
 use records::slots::stream_used;
+use records_files::read_file_type;
+use records_streams::read_stream;
+use records_streams::read_stream_file;
 use stored_names::name_length;
 use stored_names::same_names;
 use stored_names::well_stored;
-ghost use Prim.Native.Nat.{ℕ, _<_};
+use stored_names::zero_name;
 ghost use mathlib.Core.Path.{_≡_};
-ghost use mathlib.Core.Bool.{cond, not, _&&_, _||_};
-ghost use lib.Dec.{eqb};
-ghost use lib.ListN.{getD, replicate};
-ghost use Rattle.lists.specs.Lists.{all, allFrom, count, isEmpty, keep, pairs, same};
+ghost use mathlib.Core.Bool.{cond};
+ghost use lib.ListN.{length, drop};
+ghost use Rattle.lists.specs.Lists.{all, allFrom, isEmpty, keep, pairs};
 ghost use Rattle.names.specs.Names.{validStreamName};
 ghost use Rattle.stored_names.specs.StoredNames.{units};
-ghost use Rattle.records.specs.Sizes.{fileSlots, streamNameLimit};
-ghost use Rattle.records.specs.Slots.{isDirectory, fileUsed};
-ghost use Rattle.records.specs.Namespace.{bare, bareUsed, namespace};
-ghost use Rattle.consistency.specs.Relations.{streamOf, unnamedOf};
+ghost use Rattle.records.specs.Sizes.{streamNameLimit};
+ghost use Rattle.records.specs.Namespace.{bare, bareAt, bareUsed, namespace};
+ghost use Rattle.layout.specs.Layout.{tablesSize, decode};
 ghost use Rattle.consistency.specs.Slots.{slotTest};
 ghost use Rattle.consistency.specs.Good.{goodStream, isZeroStream, streamNamesDiffer};
-ghost use Rattle.consistency.specs.Test.{goodStreamOf, streamsOfFile, streamsTest};
-
-// Of each file, how many streams it has and how many of them have the empty name.
-struct FileStreams {
-    all: [u16; FILE_SLOTS],
-    unnamed: [u16; FILE_SLOTS],
-}
-
-// The name of a stream is the empty one.
-fn is_unnamed(name: [u16; STREAM_NAME_LIMIT]) -> bool
-    ensures { λ r. ⌜ r ≡ isEmpty (units name) ⌝ }
-{
-    let first = name[0];
-    first == 0
-}
-
-// The name is all zero.
-fn zero_name(name: [u16; STREAM_NAME_LIMIT]) -> bool
-    ensures { λ r. ⌜ r ≡ same name (replicate streamNameLimit 0) ⌝ }
-{
-    name[0] == 0 && well_stored(&name)
-}
+ghost use Rattle.consistency.specs.Test.{streamsTest};
+ghost use Rattle.audit_streams.specs.Streams.{freeOrDiffers, hasStreams, haveStreams};
 
 // The name is a valid one.
-fn valid_stored_stream_name(name: [u16; STREAM_NAME_LIMIT]) -> bool
-    ensures { λ r. ⌜ r ≡ validStreamName streamNameLimit (units name) ⌝ }
+fn valid_stored_stream_name(name: &[u16]) -> bool
+    ensures { λ r. ⌜ r ≡ validStreamName streamNameLimit (units (now (name .entry))) ⌝ }
 {
-    let n = name_length(&name);
+    let n = name_length(name);
     valid_stream_name(&name[..n])
 }
 
@@ -64,7 +48,7 @@ fn is_zero_stream(s: Stream) -> bool
     ensures { λ r. ⌜ r ≡ isZeroStream (bare s) ⌝ }
 {
     let name = s.name;
-    (s.file.0 == 0) & zero_name(name)
+    s.file.0 == 0 && zero_name(&name)
 }
 
 // A used one has a valid name and is of a used file, whose type is given, and of that type.
@@ -73,10 +57,13 @@ fn good_stream(s: Stream, of: FileType) -> bool
 {
     let name = s.name;
     let t = s.stream_type;
-    well_stored(&name)
-        & valid_stored_stream_name(name)
-        & is_used(of)
-        & (is_directory(t) == is_directory(of))
+    if !well_stored(&name) {
+        return false;
+    }
+    if !valid_stored_stream_name(&name) {
+        return false;
+    }
+    is_used(of) & (is_directory(t) == is_directory(of))
 }
 
 // A stream by itself, with the type of its file.
@@ -90,55 +77,49 @@ fn slot_consistent(s: Stream, of: FileType) -> bool
     }
 }
 
-// A slot whose file is no slot of the files table is neither free nor consistent.
-fn slots_consistent(v: Volume) -> bool
-    ensures { λ r. ⌜ r ≡ all (slotTest bareUsed (goodStreamOf (v .files)) isZeroStream) (namespace v .streams) ⌝ }
+// Whether a slot is free, or its stream differs from this one in file or name. Names are compared only where the file is one.
+fn slot_differs(b: &[u8], s: Stream, n: StreamNo) -> bool
+    requires { ⌜ length (now b) ≡ tablesSize ⌝ }
+    ensures { λ r. ⌜ r ≡ freeOrDiffers (bare s) (bareAt (namespace (decode (now (b .entry)) .volume) .streams) n) ⌝ }
 {
-    let mut i: usize = 0;
-    while i < STREAM_SLOTS {
-        let s = v.streams[i];
-        let n = s.file.0 as usize;
-        if FILE_SLOTS <= n {
+    if read_stream_file(b, n).0 != s.file.0 {
+        return true;
+    }
+    let q = read_stream(b, n);
+    if !stream_used(q) {
+        return true;
+    }
+    let name = s.name;
+    let other = q.name;
+    !same_names(&name, &other)
+}
+
+// Whether every used stream from a place on differs from this one.
+fn differs_from(b: &[u8], s: Stream, from: usize) -> bool
+    requires { ⌜ length (now b) ≡ tablesSize ⌝ }
+    ensures { λ r. ⌜ r ≡ all (streamNamesDiffer (bare s))
+        (keep bareUsed (drop from (namespace (decode (now (b .entry)) .volume) .streams))) ⌝ }
+{
+    let mut j = from;
+    while j < STREAM_SLOTS {
+        if !slot_differs(b, s, StreamNo(j as u16)) {
             return false;
         }
-        let f = v.files[n];
-        let of = f.file_type;
-        if !slot_consistent(s, of) {
-            return false;
-        }
-        i += 1;
+        j += 1;
     }
     true
 }
 
-// Two used streams. Names are compared only where the file is one.
-fn streams_differ(s: Stream, q: Stream) -> bool
-    ensures { λ r. ⌜ r ≡ streamNamesDiffer (bare s) (bare q) ⌝ }
-{
-    if s.file.0 != q.file.0 {
-        return true;
-    }
-    let a = s.name;
-    let b = q.name;
-    !same_names(&a, &b)
-}
-
-// Every two used streams.
-fn names_differ(v: Volume) -> bool
-    ensures { λ r. ⌜ r ≡ pairs streamNamesDiffer (keep bareUsed (namespace v .streams)) ⌝ }
+// Every two used streams: asked only where two keys agree.
+fn names_differ(b: &[u8]) -> bool
+    requires { ⌜ length (now b) ≡ tablesSize ⌝ }
+    ensures { λ r. ⌜ r ≡ pairs streamNamesDiffer (keep bareUsed (namespace (decode (now (b .entry)) .volume) .streams)) ⌝ }
 {
     let mut i: usize = 0;
     while i < STREAM_SLOTS {
-        let s = v.streams[i];
-        if stream_used(s) {
-            let mut j = i + 1;
-            while j < STREAM_SLOTS {
-                let q = v.streams[j];
-                if stream_used(q) && !streams_differ(s, q) {
-                    return false;
-                }
-                j += 1;
-            }
+        let s = read_stream(b, StreamNo(i as u16));
+        if stream_used(s) && !differs_from(b, s, i + 1) {
+            return false;
         }
         i += 1;
     }
@@ -146,54 +127,27 @@ fn names_differ(v: Volume) -> bool
 }
 
 // 1 for the empty name, else 0.
-fn one_if_unnamed(s: Stream) -> u16
-    ensures { λ r. ⌜ r ≡ cond (isEmpty (units (s .name))) 1 0 ⌝ }
+fn one_if_unnamed(name: &[u16; STREAM_NAME_LIMIT]) -> u16
+    ensures { λ r. ⌜ r ≡ cond (isEmpty (units (now (name .entry)))) 1 0 ⌝ }
 {
-    let name = s.name;
-    if is_unnamed(name) { 1 } else { 0 }
-}
-
-// The streams of every file, counted in one pass.
-fn streams_of_files(v: Volume) -> FileStreams
-    ensures { λ r. ⌜ ((n : ℕ) → n < fileSlots
-        → (getD (r .all) n 0 ≡ count (streamOf (record { 0 = n })) (keep bareUsed (namespace v .streams)))
-        × (getD (r .unnamed) n 0 ≡ count (unnamedOf (record { 0 = n })) (keep bareUsed (namespace v .streams)))) ⌝ }
-{
-    let mut all = [0u16; FILE_SLOTS];
-    let mut unnamed = [0u16; FILE_SLOTS];
-    let mut i: usize = 0;
-    while i < STREAM_SLOTS {
-        let s = v.streams[i];
-        let n = s.file.0 as usize;
-        if stream_used(s) && n < FILE_SLOTS {
-            let one = one_if_unnamed(s);
-            all[n] = all[n] + 1;
-            unnamed[n] = unnamed[n] + one;
-        }
-        i += 1;
-    }
-    FileStreams { all, unnamed }
+    if name[0] == 0 { 1 } else { 0 }
 }
 
 // A used file has one stream with the empty name, and as a directory no other.
-fn file_consistent(f: File, all: u16, unnamed: u16) -> bool
-    ensures { λ r. ⌜ r ≡ (not (fileUsed f) || (eqb unnamed 1 && (not (isDirectory (f .«file_type»)) || eqb all 1))) ⌝ }
+fn file_has_streams(t: FileType, all: u16, unnamed: u16) -> bool
+    ensures { λ r. ⌜ r ≡ hasStreams t all unnamed ⌝ }
 {
-    let t = f.file_type;
-    !file_used(f) | ((unnamed == 1) & (!is_directory(t) | (all == 1)))
+    !is_used(t) | ((unnamed == 1) & (!is_directory(t) | (all == 1)))
 }
 
-// Each file has the streams that it must have.
-fn files_consistent(v: Volume) -> bool
-    ensures { λ r. ⌜ r ≡ allFrom (streamsOfFile (keep bareUsed (namespace v .streams))) 0 (v .files) ⌝ }
+// Each file has the streams that it must have, by how many were counted.
+fn files_have_streams(b: &[u8], all: &[u16; FILE_SLOTS], unnamed: &[u16; FILE_SLOTS]) -> bool
+    requires { ⌜ length (now b) ≡ tablesSize ⌝ }
+    ensures { λ r. ⌜ r ≡ allFrom (haveStreams (now (all .entry)) (now (unnamed .entry))) 0 (decode (now (b .entry)) .volume .files) ⌝ }
 {
-    let found = streams_of_files(v);
     let mut i: usize = 0;
     while i < FILE_SLOTS {
-        let f = v.files[i];
-        let all = found.all[i];
-        let unnamed = found.unnamed[i];
-        if !file_consistent(f, all, unnamed) {
+        if !file_has_streams(read_file_type(b, FileNo(i as u16)), all[i], unnamed[i]) {
             return false;
         }
         i += 1;
@@ -201,14 +155,32 @@ fn files_consistent(v: Volume) -> bool
     true
 }
 
-pub fn streams_consistent(v: Volume) -> bool
-    ensures { λ r. ⌜ r ≡ streamsTest (v .files) (namespace v .streams) ⌝ }
+pub fn streams_consistent(b: &[u8]) -> bool
+    requires { ⌜ length (now b) ≡ tablesSize ⌝ }
+    ensures { λ r. ⌜ r ≡ streamsTest (decode (now (b .entry)) .volume .files) (namespace (decode (now (b .entry)) .volume) .streams) ⌝ }
 {
-    if !slots_consistent(v) {
+    let mut keys = [0u64; STREAM_SLOTS];
+    let mut all = [0u16; FILE_SLOTS];
+    let mut unnamed = [0u16; FILE_SLOTS];
+    let mut i: usize = STREAM_SLOTS;
+    while 0 < i {
+        i -= 1;
+        let n = StreamNo(i as u16);
+        let s = read_stream(b, n);
+        let file = s.file;
+        if !slot_consistent(s, read_file_type(b, file)) {
+            return false;
+        }
+        let name = s.name;
+        keys[i] = slot_key(stream_used(s), file.0, &name);
+        let f = file.0 as usize;
+        if stream_used(s) && f < FILE_SLOTS {
+            all[f] = all[f] + 1;
+            unnamed[f] = unnamed[f] + one_if_unnamed(&name);
+        }
+    }
+    if !distinct(&keys) && !names_differ(b) {
         return false;
     }
-    if !names_differ(v) {
-        return false;
-    }
-    files_consistent(v)
+    files_have_streams(b, &all, &unnamed)
 }

@@ -86,6 +86,7 @@ fn write_fresh(b: &mut [u8], masks: [u32; ACCOUNTS], read_only: bool)
     write_stream(b, StreamNo(0), root_stream());
 }
 
+// The length decides first, then the masks. A refusal leaves every byte.
 pub fn format(b: &mut [u8], masks: &[u32], read_only: bool) -> Answer
     ensures { λ r. ⌜ Answers r (now (b .exit)) (formatBytes (now (b .entry)) (now (masks .entry)) «read_only») ⌝ }
 {

@@ -9,3 +9,4 @@ pub mod Parts
 pub mod InPlace
 pub mod Stands
 pub mod Zeros
+pub mod Calls

@@ -4,4 +4,5 @@ pub mod Records
 pub mod Layout
 pub mod Fits
 pub mod Puts
+pub mod Calls
 pub mod Evaluate

@@ -1,9 +1,9 @@
 -- How many elements pass.
-use Prim.Native.Nat.{ℕ, suc, _+_, _≤_, _<_}
+use Prim.Native.Nat.{ℕ, suc, _+_, _≤_}
 use borrow.Author.Tests.{eqb-true, eqb-false, ne-eqb, lt-ltb, le-ltb, not-false}
-use lib.{Dec.{eqb, ltb}, ListN.{length, getD, take}, Seq.take-suc}
-use mathlib.Core.{Path.{_≡_, refl, sym, _∙_, ap}, Bool.{Bool, true, false, not, _&&_}, List.{List, [], _∷_, _++_, map}}
-use native.Mathlib.{Numerals.add-one, Omega.arith}
+use lib.{Dec.{eqb, ltb}, ListN.{length, getD}}
+use mathlib.Core.{Path.{_≡_, refl, sym, _∙_, ap}, Bool.{Bool, true, false, not, _&&_}, List.{List, [], _∷_}}
+use native.Mathlib.Omega.{arith}
 use Rattle.lists.proofs.{Tests.{by-cases, refuted, one}, Any.none-of}
 use Rattle.lists.specs.Lists.{any, count}
 
@@ -22,19 +22,6 @@ module _ {A : Type 0} (p : A → Bool) (x : A) (xs : List A) where
   count-add = by-cases (p x) (λ e. rw e (omega arith)) (λ e. rw e (omega arith))
 
 module _ {A : Type 0} (p : A → Bool) where
-  count-append : (xs ys : List A) → count p (xs ++ ys) ≡ count p xs + count p ys
-  unfolding count
-  count-append [] ys = omega arith
-  count-append (x ∷ xs) ys = omega (arith, count-append xs ys, count-add p x (xs ++ ys), count-add p x xs)
-
-  -- one step: what was passed at place i is `take i xs`
-  pub count-next : (xs : List A) (i : ℕ) (d : A) → i < length xs
-      → count p (take (i + 1) xs) ≡ count p (take i xs) + one (p (getD xs i d))
-  unfolding count
-  count-next xs i d b =
-      rw (add-one, take-suc xs i d b)
-      (omega (arith, count-append (take i xs) (getD xs i d ∷ []), count-add p (getD xs i d) []))
-
   pub count-bound : (xs : List A) → count p xs ≤ length xs
   unfolding count
   count-bound [] = omega arith
@@ -86,9 +73,3 @@ module _ {A : Type 0} where
       everyone : (ys : List A) → count (λ y. true) ys ≡ length ys
       everyone [] = refl
       everyone (y ∷ ys) = ap suc (everyone ys)
-
-  -- a list made from another
-  pub count-map : {B : Type 0} (f : A → B) (p : B → Bool) (xs : List A) → count p (map f xs) ≡ count (λ x. p (f x)) xs
-  unfolding count
-  count-map f p [] = refl
-  count-map f p (x ∷ xs) = rw (count-map f p xs)

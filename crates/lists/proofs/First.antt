@@ -1,9 +1,9 @@
 -- The first place that passes, and the first element.
 use Prim.Native.Nat.{ℕ, suc, _+_, _≤_, _<_}
 use lib.{ListN.{length, getD, drop, drop-of-length-le, length-drop}, Seq.{drop-cons, getD-drop}}
-use mathlib.Core.{Path.{_≡_, refl, sym, _∙_, ap}, Bool.{Bool, true, false, not, _&&_, false≢true, and-comm}, List.{List, [], _∷_, map}, Logic._↔_, Option.{Option, none, some, Option·some-injective}}
+use mathlib.Core.{Path.{_≡_, refl, sym, _∙_, ap}, Bool.{Bool, true, false, not, _&&_, false≢true, and-comm}, List.{List, [], _∷_, map}, Logic._↔_, Option.{none, some, Option·some-injective}}
 use native.Mathlib.{Numerals.add-one, Omega.arith}
-use Rattle.lists.proofs.{Tests.{none≢some, by-cases, and-left, and-right, excluded, or-neither}, Places.drop-map, Permutations.perm-pairs}
+use Rattle.lists.proofs.{Tests.{none≢some, by-cases, and-left, and-right, refuted, excluded, or-neither}, Places.drop-map, Permutations.perm-pairs}
 use Rattle.lists.specs.Lists.{all, any, keep, pairs, firstFrom, first, firstAfter, find, Permutation, nil, skip, swap, both}
 
 -- a place that a search finds: from the start of the search on, below the length, and it passes
@@ -51,18 +51,7 @@ module _ {A : Type 0} (p : A → Bool) where
           passes = rw (q .1, ← getD-drop n xs (q .0) d) (f .passes);
         }
 
-    pub first-found : (xs : List A) (k : ℕ) → first p xs ≡ some k → Found p xs d 0 k
-    unfolding first firstAfter
-    first-found xs k h = after-found xs 0 k h
-
-  -- nothing is found exactly where nothing passes
-  from-none : (xs : List A) (at : ℕ) → firstFrom p xs at ≡ none → any p xs ≡ false
-  unfolding firstFrom any
-  from-none [] at h = refl
-  from-none (x ∷ xs) at h =
-      by-cases (p x) (λ e. absurd (none≢some (sym h ∙ here x xs at e)))
-      (λ e. rw e (from-none xs (suc at) (sym (next x xs at e) ∙ h)))
-
+  -- something is found exactly where something passes
   from-any : (xs : List A) (at : ℕ) → any p xs ≡ false → firstFrom p xs at ≡ none
   unfolding firstFrom any
   from-any [] at h = refl
@@ -77,21 +66,13 @@ module _ {A : Type 0} (p : A → Bool) where
       by-cases (p x) (λ e. (at, here x xs at e))
       (λ e. let q = from-some xs (suc at) (rw e at h) in (q .0, next x xs at e ∙ q .1))
 
-  pub first-none : (xs : List A) → first p xs ≡ none → any p xs ≡ false
-  unfolding first
-  first-none xs h = from-none xs 0 h
-
-  pub first-some : (xs : List A) → any p xs ≡ true → (k : ℕ) × (first p xs ≡ some k)
-  unfolding first
-  first-some xs h = from-some xs 0 h
-
-  pub found-iff : (xs : List A) → (any p xs ≡ true) ↔ ((k : ℕ) × (firstAfter p 0 xs ≡ some k))
+  pub found-iff : (xs : List A) → (any p xs ≡ true) ↔ ((k : ℕ) × (first p xs ≡ some k))
   unfolding firstAfter
   found-iff xs = (from-some xs 0, λ q. by-cases (any p xs) (λ e. e) (λ e. absurd (none≢some (sym (from-any xs 0 e) ∙ q .1))))
 
-  pub none-iff : (xs : List A) → (any p xs ≡ false) ↔ (firstAfter p 0 xs ≡ none)
+  pub none-iff : (xs : List A) → (any p xs ≡ false) ↔ (first p xs ≡ none)
   unfolding firstAfter
-  none-iff xs = (from-any xs 0, from-none xs 0)
+  none-iff xs = (from-any xs 0, λ h. refuted (any p xs) (λ e. none≢some (sym h ∙ from-some xs 0 e .1)))
 
 -- a search from place n on that has come to place i: what it finds is what the rest of the list gives
 pub record Searching {A : Type 0} (p : A → Bool) (xs : List A) (n i : ℕ) : Type 0 where
@@ -117,25 +98,6 @@ module _ {A : Type 0} {p : A → Bool} {xs : List A} {n : ℕ} where
     unfolding firstFrom
     searching-ends h = s .is ∙ rw (drop-of-length-le xs h)
 
--- what a search from place i on answers: `answer` makes the answer of the place found
-abbrev pub answerFrom : {A R : Type 0} → (Option ℕ → R) → (A → Bool) → List A → ℕ → R
-answerFrom answer p xs i = answer (firstFrom p (drop i xs) i)
-
-module _ {A R : Type 0} (answer : Option ℕ → R) (p : A → Bool) (xs : List A) (i : ℕ) where
-  -- one step: b is what the code found of the element at place i
-  module _ (d : A) {b : Bool} (below : i < length xs) (judged : b ≡ p (getD xs i d)) where
-    pub answer-here : b ≡ true → answerFrom answer p xs i ≡ answer (some i)
-    unfolding firstFrom
-    answer-here e = rw (drop-cons xs i d below, firstFrom, ← judged, e)
-
-    pub answer-next : b ≡ false → answerFrom answer p xs i ≡ answerFrom answer p xs (i + 1)
-    unfolding firstFrom
-    answer-next e = rw (add-one, drop-cons xs i d below, firstFrom, ← judged, e)
-
-  pub answer-none : length xs ≤ i → answerFrom answer p xs i ≡ answer none
-  unfolding firstFrom
-  answer-none h = rw (drop-of-length-le xs h)
-
 -- a list made from another
 module _ {A B : Type 0} (f : A → B) (p : B → Bool) where
   from-map : (xs : List A) (at : ℕ) → firstFrom p (map f xs) at ≡ firstFrom (λ x. p (f x)) xs at
@@ -146,10 +108,6 @@ module _ {A B : Type 0} (f : A → B) (p : B → Bool) where
   pub after-map : (n : ℕ) (xs : List A) → firstAfter p n (map f xs) ≡ firstAfter (λ x. p (f x)) n xs
   unfolding firstAfter
   after-map n xs = rw drop-map (from-map (drop n xs) n)
-
-  pub first-map : (xs : List A) → first p (map f xs) ≡ first (λ x. p (f x)) xs
-  unfolding first
-  first-map xs = from-map xs 0
 
 -- the first element that passes
 module _ {A : Type 0} (p : A → Bool) where
@@ -176,7 +134,7 @@ module _ {A : Type 0} (p : A → Bool) where
 
   pub find-found : (d : A) (xs : List A) (x : A) → find p xs ≡ some x
       → (k : ℕ) × (first p xs ≡ some k) × (getD xs k d ≡ x)
-  unfolding first
+  unfolding firstAfter
   find-found d xs x h = let q = find-from d xs 0 x h in (q .0, q .1 ∙ ap some (omega arith), q .2)
 
   -- among those kept by a test that it passes

@@ -35,6 +35,11 @@ module _ {A : Type 0} (xs : List A) (i : ℕ) where
     unfolding all
     all-kept-next q e f = rw (kept-here e, f)
 
+    -- it is not kept, or it passes
+    pub all-kept-past : (q : A → Bool) → (p (getD xs i d) ≡ true → q (getD xs i d) ≡ true)
+        → all q (keep p (drop i xs)) ≡ all q (keep p (drop (i + 1) xs))
+    all-kept-past q h = by-cases (p (getD xs i d)) (λ e. all-kept-next q e (h e)) (λ e. ap (all q) (kept-past e))
+
   -- the end
   module _ (past : length xs ≤ i) (p : A → Bool) where
     pub kept-end : keep p (drop i xs) ≡ []

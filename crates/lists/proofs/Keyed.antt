@@ -1,12 +1,11 @@
 -- Noted by key in one pass: a table has for each key what the elements passed so far say of it. An element that passes a
 -- test says something of its own key alone, so that one more element changes the table at its key, if at all.
-use Prim.Native.Nat.{ℕ, _+_, _-_, _≤_, _<_}
+use Prim.Native.Nat.{ℕ, _-_, _≤_, _<_}
 use borrow.Author.Tests.{eq-eqb, ne-eqb}
-use lib.{Dec.eqb, ListN.{length, getD, set, take, drop}}
+use lib.{Dec.eqb, ListN.{length, getD, set, drop}}
 use mathlib.Core.{Path.{_≡_, refl, sym, _∙_, ap}, Bool.{Bool, true, false, _&&_, and-false}, List.{List, _∷_}, Logic.{_⊎_, ⊎-elim}}
 use native.Mathlib.Omega.{arith}
-use Rattle.lists.proofs.{Tests.{and-both, one}, Places.drop-back, Count.count-next, Set.set-cases}
-use Rattle.lists.specs.Lists.{count}
+use Rattle.lists.proofs.{Tests.and-both, Places.drop-back, Set.set-cases}
 
 -- `table` has at each of `size` keys what is said of it
 abbrev pub Noted : {T : Type 0} → T → ℕ → List T → (ℕ → T) → Type 0
@@ -56,23 +55,3 @@ module _ {A : Type 0} (key : A → ℕ) (used : A → Bool) where
     back-set l k y f =
         noted-set here d size table _ (λ n. what n (drop (i - 1) xs)) same-back noted l k y
         (f ∙ ap (what (key here)) (sym (drop-back xs i e positive inside)))
-
-  -- a pass from the front that counts, by a test of an element with a key: only one that has the key passes
-  module _ (test : ℕ → A → Bool) (other : (n : ℕ) (x : A) → keyed n x ≡ false → test n x ≡ false)
-      (xs : List A) (i : ℕ) (e : A) (below : i < length xs)
-      (size : ℕ) (table : List ℕ) (noted : Noted 0 size table (λ n. count (test n) (take i xs))) where
-    abbrev next : A
-    next = getD xs i e
-
-    same-front : (n : ℕ) → keyed n next ≡ false → count (test n) (take (i + 1) xs) ≡ count (test n) (take i xs)
-    same-front n f = omega (arith, count-next (test n) xs i e below, ap one (other n next f))
-
-    pub front-skip : (used next ≡ false) ⊎ (size ≤ key next) → Noted 0 size table (λ n. count (test n) (take (i + 1) xs))
-    front-skip = noted-skip next 0 size table _ (λ n. count (test n) (take (i + 1) xs)) same-front noted
-
-    pub front-add : length table ≡ size → key next < size → (more : ℕ) → more ≡ one (test (key next) next)
-        → Noted 0 size (set table (key next) (getD table (key next) 0 + more)) (λ n. count (test n) (take (i + 1) xs))
-    front-add l k more f =
-        noted-set next 0 size table _ (λ n. count (test n) (take (i + 1) xs)) same-front noted l k
-        (getD table (key next) 0 + more)
-        (omega (arith, noted (key next) k, count-next (test (key next)) xs i e below))

@@ -13,5 +13,6 @@ pub mod Permutations
 pub mod Set
 pub mod Pigeonhole
 pub mod Keyed
+pub mod Counted
 pub mod Back
 pub mod Copied

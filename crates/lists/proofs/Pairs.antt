@@ -1,9 +1,9 @@
 -- Every element passes against every later one.
 use Prim.Native.Nat.{ℕ, zero, suc, _+_, _≤_, _<_}
 use lib.ListN.{length, getD, drop}
-use mathlib.Core.{Path.{_≡_, refl, sym, _∙_, ap, ap₂}, Bool.{Bool, true, not, _&&_, _||_}, List.{List, [], _∷_, map}}
+use mathlib.Core.{Path.{_≡_, refl, sym, _∙_, ap, ap₂}, Bool.{Bool, true, false, not, _&&_, _||_}, List.{List, [], _∷_, map}}
 use native.Mathlib.Omega.{arith}
-use Rattle.lists.proofs.{Tests.{by-cases, and-left, and-right, and-both, guarded, guard}, All.{all-at, all-of, all-map}, Keep.{all-keep, kept-here, kept-end}}
+use Rattle.lists.proofs.{Tests.{by-cases, and-left, and-right, and-both, guarded, guard}, All.{all-at, all-of, all-map}, Keep.{all-keep, kept-here, kept-past, kept-end}}
 use Rattle.lists.specs.Lists.{all, pairs, keep}
 
 -- at every two places
@@ -59,6 +59,19 @@ module _ {A : Type 0} (xs : List A) (i : ℕ) where
       → pairs r (keep p (drop i xs)) ≡ (all (r (getD xs i d)) (keep p (drop (i + 1) xs)) && pairs r (keep p (drop (i + 1) xs)))
   unfolding pairs
   pairs-kept d below p r e = rw (kept-here xs i d below p e)
+
+  -- against those kept after it: it is not kept, or it passes; or it fails
+  module _ (d : A) (below : i < length xs) (p : A → Bool) (r : A → A → Bool) where
+    abbrev later : Bool
+    later = all (r (getD xs i d)) (keep p (drop (i + 1) xs))
+
+    pub pairs-kept-past : (p (getD xs i d) ≡ true → later ≡ true) → pairs r (keep p (drop i xs)) ≡ pairs r (keep p (drop (i + 1) xs))
+    pairs-kept-past h =
+        by-cases (p (getD xs i d)) (λ e. pairs-kept d below p r e ∙ ap (λ (b : Bool). b && pairs r (keep p (drop (i + 1) xs))) (h e))
+        (λ e. ap (pairs r) (kept-past xs i d below p e))
+
+    pub pairs-kept-fails : p (getD xs i d) ≡ true → later ≡ false → pairs r (keep p (drop i xs)) ≡ false
+    pairs-kept-fails e f = pairs-kept d below p r e ∙ ap (λ (b : Bool). b && pairs r (keep p (drop (i + 1) xs))) f
 
   pub pairs-kept-end : length xs ≤ i → (p : A → Bool) (r : A → A → Bool) → pairs r (keep p (drop i xs)) ≡ true
   unfolding pairs

@@ -44,12 +44,12 @@ module _ {A : Type 0} where
   find p [] = none
   find p (x ∷ xs) = elim (p x) [ true ↦ some x | false ↦ find p xs ]
 
-  unfoldable pub first : (A → Bool) → List A → Option ℕ
-  first p xs = firstFrom p xs 0
-
   -- the first place from n on that passes
   unfoldable pub firstAfter : (A → Bool) → ℕ → List A → Option ℕ
   firstAfter p n xs = firstFrom p (drop n xs) n
+
+  abbrev pub first : (A → Bool) → List A → Option ℕ
+  first p xs = firstAfter p 0 xs
 
   -- the lowest free slot from n on, of a table whose used slots pass
   abbrev pub firstFree : (A → Bool) → ℕ → List A → Option ℕ

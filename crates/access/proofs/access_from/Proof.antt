@@ -4,21 +4,12 @@ use Rattle.access.proofs.access_from.Statement.{statement}
 use Rattle.access.specs.Access.{accessFrom}
 use Rattle.access.proofs.access_from.Tie as tie
 
-need-requires : tie.Need-need-requires
-need-requires c κs = search needs
-
-within-requires : tie.Need-within-requires
-within-requires c κs = search needs
-
 returns : tie.Need-returns
 unfolding accessFrom
 returns c =
     let w = c .before in
     rw (← w .before .need .ensures, ← w .within .ensures)
     (⊎-elim (λ t. rw (t .taken)) (λ t. rw (t .0 .left, t .1 .taken)) (c .if1 .came))
-
-has-requires : tie.Need-has-requires
-has-requires c κs = search needs
 
 returns-2 : tie.Need-returns-2
 unfolding accessFrom
@@ -50,4 +41,4 @@ returns-3 c =
 
 pub access-from-spec : {M : Type 1} → statement M
 access-from-spec =
-    tie.close (tie.spec need-requires within-requires returns has-requires returns-2 returns-3)
+    tie.close (tie.spec (λ c κs. search needs) (λ c κs. search needs) returns (λ c κs. search needs) returns-2 returns-3)

@@ -4,15 +4,9 @@ use Rattle.access.proofs.access_rule.Statement.{statement}
 use Rattle.access.specs.Access.{accessRule}
 use Rattle.access.proofs.access_rule.Tie as tie
 
-effective-requires : tie.Need-effective-requires
-effective-requires c κs = search needs
-
-access-from-requires : tie.Need-access-from-requires
-access-from-requires c κs = search needs
-
 returns : tie.Need-returns
 unfolding accessRule
 returns c = rw (← c .before .effective .ensures) (c .access-from .ensures)
 
 pub access-rule-spec : {M : Type 1} → statement M
-access-rule-spec = tie.close (tie.spec effective-requires access-from-requires returns)
+access-rule-spec = tie.close (tie.spec (λ c κs. search needs) (λ c κs. search needs) returns)

@@ -4,18 +4,6 @@ use Rattle.access.proofs.effective.Statement.{statement}
 use Rattle.access.specs.Access.{effective}
 use Rattle.access.proofs.effective.Tie as tie
 
-mask-of-requires : tie.Need-mask-of-requires
-mask-of-requires c κs = search needs
-
-is-data-requires : tie.Need-is-data-requires
-is-data-requires c κs = search needs
-
-has-requires : tie.Need-has-requires
-has-requires c κs = search needs
-
-without-requires : tie.Need-without-requires
-without-requires c κs = search needs
-
 returns : tie.Need-returns
 unfolding effective
 returns c =
@@ -40,4 +28,4 @@ returns-2 c =
 pub effective-spec : {M : Type 1} → statement M
 effective-spec =
     tie.close
-    (tie.spec mask-of-requires is-data-requires has-requires without-requires returns returns-2)
+    (tie.spec (λ c κs. search needs) (λ c κs. search needs) (λ c κs. search needs) (λ c κs. search needs) returns returns-2)

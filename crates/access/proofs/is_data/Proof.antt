@@ -13,9 +13,6 @@ rest Unused k = refl
 rest Data k = absurd (⊎-elim (λ e. omega arith) (λ e. omega arith) k)
 rest Directory k = refl
 
-enum-told : tie.Need-enum-told
-enum-told c = search needs
-
 returns : tie.Need-returns
 unfolding isData
 returns c = rw (c .enum-told .given .1)
@@ -24,4 +21,4 @@ returns-2 : tie.Need-returns-2
 returns-2 c = rest (c .before .args .t) (c .match .keys2)
 
 pub is-data-spec : {M : Type 1} → statement M
-is-data-spec = tie.close (tie.spec enum-told returns returns-2)
+is-data-spec = tie.close (tie.spec (λ c. search needs) returns returns-2)

@@ -5,12 +5,6 @@ use Rattle.records.proofs.Lengths.{masks-length}
 use Rattle.access.proofs.mask_of.Statement.{statement}
 use Rattle.access.proofs.mask_of.Tie as tie
 
-mul-result : tie.Need-mul-result
-mul-result c = search needs
-
-element-copy-out-result : tie.Need-element-copy-out-result
-element-copy-out-result c = search needs
-
 returns : tie.Need-returns
 unfolding maskOf
 returns c = refl
@@ -23,4 +17,4 @@ returns-2 c =
     sym (List·getD-eq-default (f .masks) 0 (omega arith))
 
 pub mask-of-spec : {M : Type 1} → statement M
-mask-of-spec = tie.close (tie.spec mul-result element-copy-out-result returns returns-2)
+mask-of-spec = tie.close (tie.spec (λ c. search needs) (λ c. search needs) returns returns-2)

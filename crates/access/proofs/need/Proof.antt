@@ -4,12 +4,9 @@ use Rattle.access.proofs.need.Statement.{statement}
 use Rattle.access.specs.Access.{need}
 use Rattle.access.proofs.need.Tie as tie
 
-without-requires : tie.Need-without-requires
-without-requires c κs = search needs
-
 returns : tie.Need-returns
 unfolding need
 returns c = c .without .ensures
 
 pub need-spec : {M : Type 1} → statement M
-need-spec = tie.close (tie.spec without-requires returns)
+need-spec = tie.close (tie.spec (λ c κs. search needs) returns)

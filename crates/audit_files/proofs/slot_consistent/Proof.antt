@@ -3,15 +3,6 @@ use Rattle.base.proofs.Laws.{needs}
 use Rattle.audit_files.proofs.slot_consistent.Statement.{statement}
 use Rattle.audit_files.proofs.slot_consistent.Tie as tie
 
-file-used-requires : tie.Need-file-used-requires
-file-used-requires c κs = search needs
-
-good-file-requires : tie.Need-good-file-requires
-good-file-requires c κs = search needs
-
-is-zero-file-requires : tie.Need-is-zero-file-requires
-is-zero-file-requires c κs = search needs
-
 returns : tie.Need-returns
 returns c =
     let u = c .before .before in
@@ -24,4 +15,10 @@ returns-2 c =
 
 pub slot-consistent-spec : {M : Type 1} → statement M
 slot-consistent-spec =
-    tie.close (tie.spec file-used-requires good-file-requires is-zero-file-requires returns returns-2)
+    tie.close
+    (tie.spec
+    (λ c κs. search needs)
+    (λ c κs. search needs)
+    (λ c κs. search needs)
+    returns
+    returns-2)

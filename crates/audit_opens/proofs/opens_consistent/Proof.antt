@@ -1,126 +1,107 @@
--- `audit_opens::opens_consistent` meets its contract. The invariant: what is asked is what the rows from i on
--- say, and whether the handles of every two used rows differ.
-use Rattle.base.{specs.Base.{_-_, _≡_, Bool, _&&_, getD, drop, all, pairs, openSlots, zeroOpen, namespace}, proofs.Laws.{sym, _∙_, ap, arith, needs, not-true, not-false, all-fails, all-next, all-end}}
-use Rattle.consistency.specs.{Good.handlesDiffer, Test.opensTest}
-use Rattle.records.proofs.Lengths.{rows-length, streams-length}
-use Rattle.tables.specs.Tables.{live}
-use Rattle.audit_opens.proofs.{OpensScan.{openTest, row-found, row-past, opens-next, opens-none}, opens_consistent.Statement.statement}
+-- `audit_opens::opens_consistent` meets its contract. The invariant: the pass over the rows from i on.
+use Rattle.base.{specs.Base.{_≡_, Bool, _&&_, inl, inr, allFrom, namespace, Handle}, proofs.Laws.{sym, _∙_, ap, ⊎-elim, arith, needs, not-true, not-false, ltb-true, ltb-false}}
+use Rattle.layout.{specs.Layout.decode, proofs.Lengths.{streams-count, opens-count}}
+use Rattle.tables.specs.Tables.{rowAt}
+use Rattle.audit_opens.proofs.{CountsScan.foundTest, OpensScan.{openTest, Pass, row-found, pass-begins, pass-fails, pass-counts, pass-skips, rowsTest, rows-none, rows-fail, pass-ends}, opens_consistent.Statement.statement}
 use Rattle.audit_opens.proofs.opens_consistent.Tie as tie
 
 abbrev Inv-loop : tie.InvT-loop
-Inv-loop v t next i₀ i =
-    opensTest (namespace v .streams) next (t .rows)
-    ≡ (all (openTest (namespace v .streams) next) (drop i (t .rows)) && pairs handlesDiffer (live (t .rows)))
+Inv-loop b next keys₀ counts₀ i₀ keys counts i =
+    let t = decode b in
+    Pass (t .volume .streams) (t .volume .«next_handle» .0) (t .opens .rows) keys counts i
 
 abbrev μ-loop : tie.MeasureT-loop
-μ-loop v t next i₀ i = openSlots - i
+μ-loop b next keys₀ counts₀ i₀ keys counts i = i
 
 returns : tie.Need-returns Inv-loop μ-loop
+unfolding namespace
 returns c =
-    let v = c .before .args .t1 in
-    let rows = c .before .args .t2 .rows in
-    let size = rows-length (c .before .args .t2) _ (c .before .good .1 .0) in
-    sym (opens-none (namespace v .streams) (v .«next_handle» .0) rows size (c .if1 .taken))
+    let b = c .before .before .before .args .b .now in
+    let v = decode b .volume in
+    sym (rows-none (v .streams) (v .«next_handle» .0) (decode b .opens .rows) (cc))
 
 loop-holds : tie.Need-loop-holds Inv-loop μ-loop
 loop-holds c =
-    let v = c .before .args .t1 in
-    let rows = c .before .args .t2 .rows in
-    let size = rows-length (c .before .args .t2) _ (c .before .good .1 .0) in
-    opens-next (namespace v .streams) (v .«next_handle» .0) rows size (omega (arith, c .if1 .left))
+    let b = c .before .before .before .args .b .now in
+    let v = decode b .volume in
+    pass-begins (v .streams) (v .«next_handle» .0) (decode b .opens .rows) (opens-count b)
 
-mul-o : tie.Need-mul-o Inv-loop μ-loop
-mul-o c = search needs
-
-element-copy-out-o : tie.Need-element-copy-out-o Inv-loop μ-loop
-element-copy-out-o c = search needs
-
-cast-n : tie.Need-cast-n Inv-loop μ-loop
-cast-n c = search needs
+-- the row's test, as found
+row-is : (c : tie.After-row-consistent Inv-loop μ-loop) {x : Bool} → c .row-consistent .result ≡ x →
+    let o = c .before .before .before .before in
+    let v = decode (o .before .before .before .before .before .before .args .b .now) .volume in
+    openTest (v .streams) (v .«next_handle» .0) (o .read-open .result) ≡ x
+row-is c e =
+    let o = c .before .before .before .before in
+    let n = o .before .before .before .before in
+    let v = decode (n .before .before .args .b .now) .volume in
+    row-found (v .streams) (v .«next_handle» .0) (o .read-open .result) (c .before .before .read-stream-type .ensures)
+    (c .before .read-stream-file .ensures) (ap (λ (h : Handle). h .0) (n .read-next .ensures)) (c .row-consistent .ensures) e
 
 returns-2 : tie.Need-returns-2 Inv-loop μ-loop
-unfolding namespace
+unfolding namespace rowAt
 returns-2 c =
-    let l = c .before .before .before .before in
-    let a = l .before .before in
-    let v = a .args .t1 in
-    let rows = a .args .t2 .rows in
-    let next = v .«next_handle» .0 in
-    let size = rows-length (a .args .t2) _ (a .good .1 .0) in
-    let streams = streams-length v _ (a .good .0) in
-    let o = getD rows (l .loop .i) zeroOpen in
+    let o = c .before .before .before .before .before in
+    let l = o .before .before in
+    let n = l .before .before in
+    let b = n .before .before .args .b .now in
+    let v = decode b .volume in
+    let given = ap (λ (h : Handle). h .0) (n .read-next .ensures) in
     sym
-    (l .loop .inv
-    ∙ ap (λ (b : Bool). b && pairs handlesDiffer (live rows))
-    (all-fails (openTest (namespace v .streams) next) rows (l .loop .i) zeroOpen (omega arith)
-    (row-past (v .streams) next o (omega (arith, c .if2 .taken)) (omega arith))))
+    (rows-fail (v .streams) (v .«next_handle» .0) (decode b .opens .rows) (opens-count b) (omega (arith, l .before .if1 .left))
+    (pass-fails (v .streams) _ (decode b .opens .rows) (opens-count b) (l .loop .i) (omega arith) (l .loop .inv)
+    (o .read-open .ensures) (row-is (c .before) (not-true _ (c .if2 .taken)))))
 
-mul-s : tie.Need-mul-s Inv-loop μ-loop
-mul-s c = search needs
+loop-again : tie.Need-loop-again Inv-loop μ-loop
+unfolding rowAt
+loop-again c =
+    let used = c .before .before .before in
+    let row = used .before .before .before in
+    let o = row .before .before .before .before .before in
+    let l = o .before .before in
+    let b = l .before .before .before .before .args .b .now in
+    pass-counts (decode b .volume .streams) _ (decode b .opens .rows) (opens-count b) (l .loop .i) (omega arith) (l .loop .inv)
+    (o .read-open .ensures) (row-is (row .before) (not-false _ (row .if2 .left)))
+    (sym (used .before .open-used .ensures) ∙ used .if3 .taken) (omega (arith, ltb-true)) (c .with-open .ensures)
 
-element-copy-out-s : tie.Need-element-copy-out-s Inv-loop μ-loop
-element-copy-out-s c = search needs
+loop-again-2 : tie.Need-loop-again-2 Inv-loop μ-loop
+unfolding rowAt
+loop-again-2 c =
+    let row = c .before .before .before in
+    let o = row .before .before .before .before .before in
+    let l = o .before .before in
+    let b = l .before .before .before .before .args .b .now in
+    pass-skips (decode b .volume .streams) _ (decode b .opens .rows) (opens-count b) (l .loop .i) (omega arith) (l .loop .inv)
+    (o .read-open .ensures) (row-is (row .before) (not-false _ (row .if2 .left)))
+    (⊎-elim (λ w. inr (omega (arith, ltb-false))) (λ w. inl (sym (c .before .open-used .ensures) ∙ w .left)) (c .if3 .came))
 
-row-consistent-requires : tie.Need-row-consistent-requires Inv-loop μ-loop
-row-consistent-requires c κs = search needs
+slice-aggregate-distinct : tie.Need-slice-aggregate-distinct Inv-loop μ-loop
+slice-aggregate-distinct c =
+    let l = c .before .before in
+    sym (l .loop .inv .scanned .size ∙ opens-count (l .before .before .before .before .args .b .now))
+
+-- the whole test after the pass
+ends : (c : tie.After-distinct Inv-loop μ-loop) {x : Bool} → c .distinct .result ≡ x →
+    let l = c .before .before .before in
+    let t = decode (l .before .before .before .before .args .b .now) in
+    rowsTest (t .volume .streams) (t .volume .«next_handle» .0) (t .opens .rows)
+    ≡ (x && allFrom (foundTest (l .loop .counts)) 0 (t .volume .streams))
+ends c e =
+    let l = c .before .before .before in
+    let n = l .before .before in
+    let b = n .before .before .args .b .now in
+    let given = ap (λ (h : Handle). h .0) (n .read-next .ensures) in
+    pass-ends (decode b .volume .streams) _ (decode b .opens .rows) (opens-count b) (omega (arith, l .before .if1 .left))
+    (omega arith) (l .loop .inv) (streams-count b)
+    ∙ rw (← c .distinct .ensures, e)
 
 returns-3 : tie.Need-returns-3 Inv-loop μ-loop
 unfolding namespace
-returns-3 c =
-    let l = c .before .before .before .before .before .before .before in
-    let a = l .before .before in
-    let v = a .args .t1 in
-    let rows = a .args .t2 .rows in
-    let next = v .«next_handle» .0 in
-    let size = rows-length (a .args .t2) _ (a .good .1 .0) in
-    let streams = streams-length v _ (a .good .0) in
-    let o = getD rows (l .loop .i) zeroOpen in
-    sym
-    (l .loop .inv
-    ∙ ap (λ (b : Bool). b && pairs handlesDiffer (live rows))
-    (all-fails (openTest (namespace v .streams) next) rows (l .loop .i) zeroOpen (omega arith)
-    (row-found (v .streams) next o _ (omega (arith, c .before .before .before .if2 .left)) (c .before .row-consistent .ensures)
-    (not-true _ (c .if3 .taken)))))
-
-add-i : tie.Need-add-i Inv-loop μ-loop
-add-i c = search needs
-
-loop-less : tie.Need-loop-less Inv-loop μ-loop
-loop-less c = search needs
-
-loop-again : tie.Need-loop-again Inv-loop μ-loop
-unfolding namespace
-loop-again c =
-    let l = c .before .before .before .before .before .before .before in
-    let a = l .before .before in
-    let v = a .args .t1 in
-    let rows = a .args .t2 .rows in
-    let next = v .«next_handle» .0 in
-    let size = rows-length (a .args .t2) _ (a .good .1 .0) in
-    let streams = streams-length v _ (a .good .0) in
-    let o = getD rows (l .loop .i) zeroOpen in
-    l .loop .inv
-    ∙ ap (λ (b : Bool). b && pairs handlesDiffer (live rows))
-    (all-next (openTest (namespace v .streams) next) rows (l .loop .i) zeroOpen (omega arith)
-    (row-found (v .streams) next o _ (omega (arith, c .before .before .before .if2 .left)) (c .before .row-consistent .ensures)
-    (not-false _ (c .if3 .left))))
-
-all-handles-differ-requires : tie.Need-all-handles-differ-requires Inv-loop μ-loop
-all-handles-differ-requires c κs = search needs
+returns-3 c = sym (ends (c .before) (not-true _ (c .if5 .taken)))
 
 returns-4 : tie.Need-returns-4 Inv-loop μ-loop
-returns-4 c =
-    let l = c .before .before in
-    let a = l .before .before in
-    let v = a .args .t1 in
-    let rows = a .args .t2 .rows in
-    let next = v .«next_handle» .0 in
-    let size = rows-length (a .args .t2) _ (a .good .1 .0) in
-    c .all-handles-differ .ensures
-    ∙ sym
-    (l .loop .inv
-    ∙ ap (λ (b : Bool). b && pairs handlesDiffer (live rows))
-    (all-end (openTest (namespace v .streams) next) rows (l .loop .i) (omega arith)))
+unfolding namespace
+returns-4 c = c .counts-held .ensures ∙ sym (ends (c .before .before) (not-false _ (c .before .if5 .left)))
 
 pub opens-consistent-spec : {M : Type 1} → statement M
 opens-consistent-spec =
@@ -128,18 +109,30 @@ opens-consistent-spec =
     (tie.spec
     Inv-loop
     μ-loop
+    (λ c κs. search needs)
     returns
     loop-holds
-    mul-o
-    element-copy-out-o
-    cast-n
+    (λ c. search needs)
+    (λ c κs. search needs)
+    (λ c κs. search needs)
+    (λ c κs. search needs)
+    (λ c κs. search needs)
     returns-2
-    mul-s
-    element-copy-out-s
-    row-consistent-requires
-    returns-3
-    add-i
-    loop-less
+    (λ c. search needs)
+    (λ c. search needs)
+    (λ c. search needs)
+    (λ c κs. search needs)
+    (λ c. search needs)
+    (λ c. search needs)
+    (λ c κs. search needs)
+    (λ c. search needs)
+    (λ c. search needs)
+    (λ c. search needs)
     loop-again
-    all-handles-differ-requires
+    (λ c. search needs)
+    loop-again-2
+    slice-aggregate-distinct
+    (λ c κs. search needs)
+    returns-3
+    (λ c κs. search needs)
     returns-4)

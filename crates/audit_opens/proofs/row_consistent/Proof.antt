@@ -3,15 +3,6 @@ use Rattle.base.proofs.Laws.{needs}
 use Rattle.audit_opens.proofs.row_consistent.Statement.{statement}
 use Rattle.audit_opens.proofs.row_consistent.Tie as tie
 
-open-used-requires : tie.Need-open-used-requires
-open-used-requires c κs = search needs
-
-good-open-requires : tie.Need-good-open-requires
-good-open-requires c κs = search needs
-
-is-zero-open-requires : tie.Need-is-zero-open-requires
-is-zero-open-requires c κs = search needs
-
 returns : tie.Need-returns
 returns c = rw (← c .before .before .open-used .ensures, c .before .if1 .taken) (c .good-open .ensures)
 
@@ -20,4 +11,10 @@ returns-2 c = rw (← c .before .before .open-used .ensures, c .before .if1 .lef
 
 pub row-consistent-spec : {M : Type 1} → statement M
 row-consistent-spec =
-    tie.close (tie.spec open-used-requires good-open-requires is-zero-open-requires returns returns-2)
+    tie.close
+    (tie.spec
+    (λ c κs. search needs)
+    (λ c κs. search needs)
+    (λ c κs. search needs)
+    returns
+    returns-2)

@@ -1,64 +1,153 @@
--- `audit_streams::streams_consistent` meets its contract: its three passes are the parts of the test.
-use Rattle.base.{proofs.Laws.{sym, _∙_, not-true, not-false, needs}, specs.Base.namespace}
-use Rattle.records.proofs.Lengths.{streams-length}
-use Rattle.audit_streams.proofs.{StreamsScan.streams-parts, streams_consistent.Statement.statement}
+-- `audit_streams::streams_consistent` meets its contract. The invariant: the streams from i on were passed.
+use Rattle.base.{specs.Base.{_-_, _≡_, inl, inr, getD, isEmpty, fileSlots, streamUsed, zeroBare, bare, bareAt, bareUsed}, proofs.Laws.{refl, sym, _∙_, ⊎-elim, arith, needs, not-true, not-false, ltb-true, ltb-false}}
+use Rattle.layout.{specs.Layout.decode, proofs.Lengths.files-count}
+use Rattle.stored_names.specs.StoredNames.{units}
+use Rattle.audit_streams.proofs.{Streams.{streams, streams-long, stream-read}, Pass.{streamTest, streamKey, Passed, pass-begins, every-room, unnamed-room, pass-fails, pass-skips, pass-adds, names-settled, names-fail, pass-ends}, streams_consistent.Statement.statement}
 use Rattle.audit_streams.proofs.streams_consistent.Tie as tie
 
-slots-consistent-requires : tie.Need-slots-consistent-requires
-slots-consistent-requires c κs = search needs
+abbrev Inv-loop : tie.InvT-loop
+Inv-loop b keys₀ all₀ unnamed₀ i₀ keys all unnamed i = Passed (decode b .volume .files) (streams b) keys all unnamed i
 
-returns : tie.Need-returns
-unfolding namespace
+abbrev μ-loop : tie.MeasureT-loop
+μ-loop b keys₀ all₀ unnamed₀ i₀ keys all unnamed i = i
+
+loop-holds : tie.Need-loop-holds Inv-loop μ-loop
+loop-holds c = let b = c .before .args .b .now in pass-begins (decode b .volume .files) (streams b) _ (streams-long b) refl
+
+-- the stream that was read is the one before place i
+here : (c : tie.After-read-stream Inv-loop μ-loop) →
+    let l = c .before .before in
+    bare (c .read-stream .result) ≡ getD (streams (l .before .before .args .b .now)) (l .loop .i - 1) zeroBare
+unfolding bareAt
+here c = stream-read _ _ (c .read-stream .ensures)
+
+-- it was tested with the type of its file
+tested : (c : tie.After-slot-consistent Inv-loop μ-loop) →
+    let s = c .before .before .before in
+    let b = s .before .before .before .before .args .b .now in
+    c .slot-consistent .result ≡ streamTest (decode b .volume .files) (bare (s .read-stream .result))
+unfolding bare
+tested c = rw (← c .before .read-file-type .ensures) (c .slot-consistent .ensures)
+
+-- and its key is that of its name
+key : (c : tie.After-slot-key Inv-loop μ-loop) →
+    let s = c .before .before .before .before .before .before .before .before in
+    c .slot-key .result ≡ streamKey (bare (s .read-stream .result))
+unfolding bare bareUsed streamUsed
+key c = rw (← c .before .before .stream-used .ensures) (c .slot-key .ensures)
+
+returns : tie.Need-returns Inv-loop μ-loop
 returns c =
-    let a = c .before .before in
-    let v = a .args .v in
-    let parts = streams-parts (v .files) (v .streams) (streams-length v _ (a .good .0)) in
-    sym (parts ∙ rw (← c .before .slots-consistent .ensures, not-true (c .before .slots-consistent .result) (c .if1 .taken)))
-
-names-differ-requires : tie.Need-names-differ-requires
-names-differ-requires c κs = search needs
-
-returns-2 : tie.Need-returns-2
-unfolding namespace
-returns-2 c =
-    let a = c .before .before .before .before in
-    let v = a .args .v in
-    let parts = streams-parts (v .files) (v .streams) (streams-length v _ (a .good .0)) in
+    let s = c .before .before .before .before in
+    let l = s .before .before in
     sym
-    (parts
-    ∙ rw (
-      ← c .before .before .before .slots-consistent .ensures,
-      not-false (c .before .before .before .slots-consistent .result) (c .before .before .if1 .left),
-      ← c .before .names-differ .ensures,
-      not-true (c .before .names-differ .result) (c .if2 .taken),
-    ))
+    (pass-fails (l .loop .inv) (omega arith) (bare (s .read-stream .result)) (here s)
+    (sym (tested (c .before)) ∙ not-true _ (c .if1 .taken)))
 
-files-consistent-requires : tie.Need-files-consistent-requires
-files-consistent-requires c κs = search needs
+add-all : tie.Need-add-all Inv-loop μ-loop
+add-all c =
+    let s = c .before .before .before .before .before .before .before .before .before .before .before .before in
+    let l = s .before .before in
+    let n = s .read-stream .result .file .0 in
+    let room = every-room (l .loop .inv) n (ltb-true n fileSlots (c .if3 .taken)) in
+    record { fits = omega arith }
 
-returns-3 : tie.Need-returns-3
-unfolding namespace
+add-unnamed : tie.Need-add-unnamed Inv-loop μ-loop
+add-unnamed c =
+    let f = c .before .before in
+    let s = f .before .before .before .before .before .before .before .before .before .before .before .before in
+    let l = s .before .before in
+    let n = s .read-stream .result .file .0 in
+    let room =
+    unnamed-room (l .loop .inv) n (ltb-true n fileSlots (f .if3 .taken))
+    (isEmpty (units (s .read-stream .result .name))) in
+    record { fits = omega (arith, c .one-if-unnamed .ensures) }
+
+loop-again : tie.Need-loop-again Inv-loop μ-loop
+unfolding bare bareUsed streamUsed
+loop-again c =
+    let u = c .before .before .before .before in
+    let k = u .before .before in
+    let t = k .before .before .before .before .before in
+    let s = t .before .before .before in
+    let l = s .before .before in
+    pass-adds (l .loop .inv) (omega arith) (bare (s .read-stream .result)) (here s)
+    (sym (tested t) ∙ not-false _ (k .before .before .before .before .if1 .left)) (key k)
+    (sym (u .stream-used2 .ensures) ∙ c .before .before .before .if2 .taken) (ltb-true _ fileSlots (c .before .before .if3 .taken))
+    (c .one-if-unnamed .ensures)
+
+loop-again-2 : tie.Need-loop-again-2 Inv-loop μ-loop
+unfolding bare bareUsed streamUsed
+loop-again-2 c =
+    let u = c .before in
+    let k = u .before .before in
+    let t = k .before .before .before .before .before in
+    let s = t .before .before .before in
+    let l = s .before .before in
+    pass-skips (l .loop .inv) (omega arith) (bare (s .read-stream .result)) (here s)
+    (sym (tested t) ∙ not-false _ (k .before .before .before .before .if1 .left)) (key k)
+    (⊎-elim (λ w. inr (ltb-false _ fileSlots (w .1 .left))) (λ w. inl (sym (u .stream-used2 .ensures) ∙ w .left)) (c .if2 .came))
+
+slice-aggregate-distinct : tie.Need-slice-aggregate-distinct Inv-loop μ-loop
+slice-aggregate-distinct c =
+    let l = c .before .before in
+    sym (l .loop .inv .scanned .size ∙ l .loop .inv .long)
+
+returns-2 : tie.Need-returns-2 Inv-loop μ-loop
+returns-2 c =
+    let l = c .before .before .before .before .before .before in
+    sym
+    (names-fail (l .loop .inv) (omega arith)
+    (sym (c .before .names-differ .ensures) ∙ not-true _ (c .if5 .taken)))
+
+returns-3 : tie.Need-returns-3 Inv-loop μ-loop
 returns-3 c =
-    let a = c .before .before .before .before .before in
-    let v = a .args .v in
-    let parts = streams-parts (v .files) (v .streams) (streams-length v _ (a .good .0)) in
-    c .files-consistent .ensures
-    ∙ sym
-    (parts
-    ∙ rw (
-      ← c .before .before .before .before .slots-consistent .ensures,
-      not-false (c .before .before .before .before .slots-consistent .result) (c .before .before .before .if1 .left),
-      ← c .before .before .names-differ .ensures,
-      not-false (c .before .before .names-differ .result) (c .before .if2 .left),
-    ))
+    let d = c .before .before .before .before in
+    let l = d .before .before .before in
+    pass-ends (l .loop .inv) (omega arith) (files-count (l .before .before .args .b .now))
+    (⊎-elim (λ w. sym (w .1 .ensures) ∙ not-false _ (w .2 .left))
+    (λ w. names-settled (l .loop .inv) (omega arith) (sym (d .distinct .ensures) ∙ not-false _ (w .left)))
+    (c .before .before .before .if4 .came))
+    (c .files-have-streams .ensures)
 
 pub streams-consistent-spec : {M : Type 1} → statement M
 streams-consistent-spec =
     tie.close
     (tie.spec
-    slots-consistent-requires
+    Inv-loop
+    μ-loop
+    loop-holds
+    (λ c. search needs)
+    (λ c. search needs)
+    (λ c κs. search needs)
+    (λ c κs. search needs)
+    (λ c κs. search needs)
     returns
-    names-differ-requires
+    (λ c κs. search needs)
+    (λ c. search needs)
+    (λ c κs. search needs)
+    (λ c. search needs)
+    (λ c. search needs)
+    (λ c. search needs)
+    (λ c κs. search needs)
+    (λ c. search needs)
+    (λ c. search needs)
+    add-all
+    (λ c. search needs)
+    (λ c. search needs)
+    (λ c. search needs)
+    (λ c. search needs)
+    (λ c κs. search needs)
+    add-unnamed
+    (λ c. search needs)
+    (λ c. search needs)
+    (λ c. search needs)
+    loop-again
+    (λ c. search needs)
+    loop-again-2
+    slice-aggregate-distinct
+    (λ c κs. search needs)
+    (λ c κs. search needs)
     returns-2
-    files-consistent-requires
+    (λ c κs. search needs)
     returns-3)

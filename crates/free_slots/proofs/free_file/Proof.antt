@@ -1,5 +1,5 @@
 -- `free_slots::free_file` meets its contract: a turn of the loop looks at one slot more.
-use Rattle.base.{specs.Base.{_-_, not, fileSlots, fileUsed, isUsed, zeroFile, namespace, someOr, _>>=_}, proofs.Laws.{arith, needs, Searching, searching-begins, searching-finds, searching-turns, searching-ends}}
+use Rattle.base.{specs.Base.{_-_, not, fileSlots, fileUsed, zeroFile, namespace, someOr, _>>=_}, proofs.Laws.{arith, needs, Searching, searching-begins, searching-finds, searching-turns, searching-ends}}
 use Rattle.layout.{specs.Layout.decode, proofs.Lengths.files-count}
 use Rattle.tables.specs.Tables.{fileAt}
 use Rattle.free_slots.proofs.free_file.Statement.{statement}

@@ -1,5 +1,5 @@
 -- `free_slots::free_stream` meets its contract: a turn of the loop looks at one slot more.
-use Rattle.base.{specs.Base.{_-_, not, bare, streamSlots, bareUsed, isUsed, zeroStream, namespace, someOr, _>>=_}, proofs.Laws.{arith, needs, after-map, Searching, searching-begins, searching-finds, searching-turns, searching-ends}}
+use Rattle.base.{specs.Base.{_-_, not, bare, streamSlots, bareUsed, zeroStream, namespace, someOr, _>>=_}, proofs.Laws.{arith, needs, after-map, Searching, searching-begins, searching-finds, searching-turns, searching-ends}}
 use Rattle.layout.{specs.Layout.decode, proofs.Lengths.streams-count}
 use Rattle.tables.specs.Tables.{streamAt}
 use Rattle.free_slots.proofs.free_stream.Statement.{statement}

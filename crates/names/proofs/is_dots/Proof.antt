@@ -10,17 +10,8 @@ both-right a b e = rw e
 both-left : (a b : Bool) → a ≡ false → a ≡ (a && b)
 both-left a b e = rw e
 
-shared-slice-read-result : tie.Need-shared-slice-read-result
-shared-slice-read-result c = search needs
-
 returns : tie.Need-returns
 returns c = dots-one (c .before .before .args .name .now) (c .before .if1 .taken)
-
-shared-slice-read-if3 : tie.Need-shared-slice-read-if3
-shared-slice-read-if3 c = search needs
-
-shared-slice-read-result-2 : tie.Need-shared-slice-read-result-2
-shared-slice-read-result-2 c = search needs
 
 returns-2 : tie.Need-returns-2
 returns-2 c =
@@ -41,10 +32,10 @@ pub is-dots-spec : {M : Type 1} → statement M
 is-dots-spec =
     tie.close
     (tie.spec
-    shared-slice-read-result
+    (λ c. search needs)
     returns
-    shared-slice-read-if3
-    shared-slice-read-result-2
+    (λ c. search needs)
+    (λ c. search needs)
     returns-2
     returns-3
     returns-4)

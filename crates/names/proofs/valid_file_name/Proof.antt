@@ -7,16 +7,10 @@ use Rattle.names.proofs.valid_file_name.Tie as tie
 returns : tie.Need-returns
 returns c = sym (file-name-empty fileNameLimit (c .before .before .args .name .now) (c .if1 .taken))
 
-is-dots-requires : tie.Need-is-dots-requires
-is-dots-requires c κs = search needs
-
 returns-2 : tie.Need-returns-2
 returns-2 c =
     sym
     (file-name-dots fileNameLimit (c .before .before .before .before .args .name .now) (sym (c .before .is-dots .ensures) ∙ c .if2 .taken))
-
-valid-units-requires : tie.Need-valid-units-requires
-valid-units-requires c κs = search needs
 
 returns-3 : tie.Need-returns-3
 returns-3 c =
@@ -27,4 +21,4 @@ returns-3 c =
 
 pub valid-file-name-spec : {M : Type 1} → statement M
 valid-file-name-spec =
-    tie.close (tie.spec returns is-dots-requires returns-2 valid-units-requires returns-3)
+    tie.close (tie.spec returns (λ c κs. search needs) returns-2 (λ c κs. search needs) returns-3)

@@ -4,12 +4,9 @@ use Rattle.names.proofs.valid_stream_name.Statement.{statement}
 use Rattle.names.specs.Names.{validStreamName}
 use Rattle.names.proofs.valid_stream_name.Tie as tie
 
-valid-units-requires : tie.Need-valid-units-requires
-valid-units-requires c κs = search needs
-
 returns : tie.Need-returns
 unfolding validStreamName
 returns c = c .valid-units .ensures
 
 pub valid-stream-name-spec : {M : Type 1} → statement M
-valid-stream-name-spec = tie.close (tie.spec valid-units-requires returns)
+valid-stream-name-spec = tie.close (tie.spec (λ c κs. search needs) returns)

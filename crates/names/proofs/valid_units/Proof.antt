@@ -20,15 +20,6 @@ loop-holds c =
     let s = c .before .before .args in
     stream-name-units (s .limit) (s .name .now) (c .if1 .left)
 
-mul-valid-unit : tie.Need-mul-valid-unit Inv-loop μ-loop
-mul-valid-unit c = search needs
-
-shared-slice-read-valid-unit : tie.Need-shared-slice-read-valid-unit Inv-loop μ-loop
-shared-slice-read-valid-unit c = search needs
-
-valid-unit-requires : tie.Need-valid-unit-requires Inv-loop μ-loop
-valid-unit-requires c κs = search needs
-
 returns-2 : tie.Need-returns-2 Inv-loop μ-loop
 returns-2 c =
     let l = c .before .before .before .before in
@@ -36,12 +27,6 @@ returns-2 c =
     sym
     (l .loop .inv
     ∙ all-fails validUnit (s .name .now) (l .loop .i) 0 (omega arith) (sym (c .before .valid-unit .ensures) ∙ not-true _ (c .if2 .taken)))
-
-add-i : tie.Need-add-i Inv-loop μ-loop
-add-i c = search needs
-
-loop-less : tie.Need-loop-less Inv-loop μ-loop
-loop-less c = search needs
 
 loop-again : tie.Need-loop-again Inv-loop μ-loop
 loop-again c =
@@ -64,11 +49,11 @@ valid-units-spec =
     μ-loop
     returns
     loop-holds
-    mul-valid-unit
-    shared-slice-read-valid-unit
-    valid-unit-requires
+    (λ c. search needs)
+    (λ c. search needs)
+    (λ c κs. search needs)
     returns-2
-    add-i
-    loop-less
+    (λ c. search needs)
+    (λ c. search needs)
     loop-again
     returns-3)

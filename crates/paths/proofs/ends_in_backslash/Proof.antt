@@ -7,18 +7,9 @@ use Rattle.paths.proofs.ends_in_backslash.Tie as tie
 returns : tie.Need-returns
 returns c = sym (ends-empty backslash (c .before .args .path .now) (c .if1 .taken))
 
-sub-result : tie.Need-sub-result
-sub-result c = search needs
-
-mul-result : tie.Need-mul-result
-mul-result c = search needs
-
-shared-slice-read-result : tie.Need-shared-slice-read-result
-shared-slice-read-result c = search needs
-
 returns-2 : tie.Need-returns-2
 returns-2 c = ends-last backslash (c .before .before .args .path .now) (c .before .if1 .left)
 
 pub ends-in-backslash-spec : {M : Type 1} → statement M
 ends-in-backslash-spec =
-    tie.close (tie.spec returns sub-result mul-result shared-slice-read-result returns-2)
+    tie.close (tie.spec returns (λ c. search needs) (λ c. search needs) (λ c. search needs) returns-2)

@@ -6,12 +6,6 @@ use Rattle.paths.proofs.{Judging.{leaf-file-bad, leaf-stream-bad, leaf-
 use Rattle.paths.specs.Positions.{asLeaf}
 use Rattle.paths.proofs.valid_leaf.Tie as tie
 
-part-of-requires : tie.Need-part-of-requires
-part-of-requires c κs = search needs
-
-valid-file-name-requires : tie.Need-valid-file-name-requires
-valid-file-name-requires c κs = search needs
-
 -- what the two calls say of the names
 file-is : (c : tie.After-valid-file-name) → c .valid-file-name .result ≡ validFileName fileNameLimit (partOf (c .before .before .before .before .args .path .now) (c .before .before .before .before .args .leaf .file))
 file-is c = c .valid-file-name .ensures ∙ ap (validFileName fileNameLimit) (c .before .part-of .ensures)
@@ -23,12 +17,6 @@ returns c =
     sym
     (leaf-file-bad (s .wants-directory) (asLeaf (s .path .now) (s .leaf))
     (sym (file-is (c .before)) ∙ not-true _ (c .if1 .taken)))
-
-part-of-requires-2 : tie.Need-part-of-requires-2
-part-of-requires-2 c κs = search needs
-
-valid-stream-name-requires : tie.Need-valid-stream-name-requires
-valid-stream-name-requires c κs = search needs
 
 stream-is : (c : tie.After-valid-stream-name) → c .valid-stream-name .result ≡ validStreamName streamNameLimit (partOf (c .before .before .before .before .before .before .before .before .args .path .now) (c .before .before .before .before .before .before .before .before .args .leaf .stream))
 stream-is c = c .valid-stream-name .ensures ∙ ap (validStreamName streamNameLimit) (c .before .part-of2 .ensures)
@@ -67,11 +55,11 @@ pub valid-leaf-spec : {M : Type 1} → statement M
 valid-leaf-spec =
     tie.close
     (tie.spec
-    part-of-requires
-    valid-file-name-requires
+    (λ c κs. search needs)
+    (λ c κs. search needs)
     returns
-    part-of-requires-2
-    valid-stream-name-requires
+    (λ c κs. search needs)
+    (λ c κs. search needs)
     returns-2
     returns-3
     returns-4)

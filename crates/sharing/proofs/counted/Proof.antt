@@ -4,18 +4,9 @@ use Rattle.sharing.proofs.counted.Statement.{statement}
 use Rattle.sharing.specs.Sharing.{anyKind, holds, counted, accessBits}
 use Rattle.sharing.proofs.counted.Tie as tie
 
-has-requires : tie.Need-has-requires
-has-requires c κs = search needs
-
-has-requires-2 : tie.Need-has-requires-2
-has-requires-2 c κs = search needs
-
-has-requires-3 : tie.Need-has-requires-3
-has-requires-3 c κs = search needs
-
 returns : tie.Need-returns
 unfolding counted anyKind holds accessBits
 returns c = rw (← c .before .before .has .ensures, ← c .before .has2 .ensures, ← c .has3 .ensures)
 
 pub counted-spec : {M : Type 1} → statement M
-counted-spec = tie.close (tie.spec has-requires has-requires-2 has-requires-3 returns)
+counted-spec = tie.close (tie.spec (λ c κs. search needs) (λ c κs. search needs) (λ c κs. search needs) returns)

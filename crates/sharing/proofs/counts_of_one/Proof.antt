@@ -4,27 +4,6 @@ use Rattle.sharing.proofs.counts_of_one.Statement.{statement}
 use Rattle.sharing.specs.Sharing.{countsOfAll, isHolder, isSharer, holds, shares, accessBits, shareBit}
 use Rattle.sharing.proofs.counts_of_one.Tie as tie
 
-counted-requires : tie.Need-counted-requires
-counted-requires c κs = search needs
-
-one-if-has-requires : tie.Need-one-if-has-requires
-one-if-has-requires c κs = search needs
-
-one-if-has-requires-2 : tie.Need-one-if-has-requires-2
-one-if-has-requires-2 c κs = search needs
-
-one-if-has-requires-3 : tie.Need-one-if-has-requires-3
-one-if-has-requires-3 c κs = search needs
-
-one-if-has-requires-4 : tie.Need-one-if-has-requires-4
-one-if-has-requires-4 c κs = search needs
-
-one-if-has-requires-5 : tie.Need-one-if-has-requires-5
-one-if-has-requires-5 c κs = search needs
-
-one-if-has-requires-6 : tie.Need-one-if-has-requires-6
-one-if-has-requires-6 c κs = search needs
-
 returns : tie.Need-returns
 unfolding count countsOfAll isHolder isSharer holds shares accessBits shareBit
 returns c =
@@ -47,12 +26,12 @@ pub counts-of-one-spec : {M : Type 1} → statement M
 counts-of-one-spec =
     tie.close
     (tie.spec
-    counted-requires
-    one-if-has-requires
-    one-if-has-requires-2
-    one-if-has-requires-3
-    one-if-has-requires-4
-    one-if-has-requires-5
-    one-if-has-requires-6
+    (λ c κs. search needs)
+    (λ c κs. search needs)
+    (λ c κs. search needs)
+    (λ c κs. search needs)
+    (λ c κs. search needs)
+    (λ c κs. search needs)
+    (λ c κs. search needs)
     returns
     returns-2)

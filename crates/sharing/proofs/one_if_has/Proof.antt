@@ -3,9 +3,6 @@ use Rattle.base.proofs.Laws.{needs}
 use Rattle.sharing.proofs.one_if_has.Statement.{statement}
 use Rattle.sharing.proofs.one_if_has.Tie as tie
 
-has-requires : tie.Need-has-requires
-has-requires c κs = search needs
-
 returns : tie.Need-returns
 returns c = rw (← c .before .has .ensures, c .if1 .taken)
 
@@ -13,4 +10,4 @@ returns-2 : tie.Need-returns-2
 returns-2 c = rw (← c .before .has .ensures, c .if1 .left)
 
 pub one-if-has-spec : {M : Type 1} → statement M
-one-if-has-spec = tie.close (tie.spec has-requires returns returns-2)
+one-if-has-spec = tie.close (tie.spec (λ c κs. search needs) returns returns-2)

@@ -4,12 +4,6 @@ use Rattle.sharing.proofs.plus.Statement.{statement}
 use Rattle.sharing.specs.Saturating.{plusUpTo}
 use Rattle.sharing.proofs.plus.Tie as tie
 
-sub-if1 : tie.Need-sub-if1
-sub-if1 c = search needs
-
-add-result : tie.Need-add-result
-add-result c = search needs
-
 returns : tie.Need-returns
 unfolding plusUpTo
 returns c = omega arith
@@ -19,4 +13,4 @@ unfolding plusUpTo
 returns-2 c = omega arith
 
 pub plus-spec : {M : Type 1} → statement M
-plus-spec = tie.close (tie.spec sub-if1 add-result returns returns-2)
+plus-spec = tie.close (tie.spec (λ c. search needs) (λ c. search needs) returns returns-2)

@@ -4,30 +4,6 @@ use Rattle.sharing.proofs.without_open.Statement.{statement}
 use Rattle.sharing.specs.Sharing.{countsOfAll, holders, sharers, changedBy, withoutOpen}
 use Rattle.sharing.proofs.without_open.Tie as tie
 
-counts-of-one-requires : tie.Need-counts-of-one-requires
-counts-of-one-requires c κs = search needs
-
-minus-requires : tie.Need-minus-requires
-minus-requires c κs = search needs
-
-minus-requires-2 : tie.Need-minus-requires-2
-minus-requires-2 c κs = search needs
-
-minus-requires-3 : tie.Need-minus-requires-3
-minus-requires-3 c κs = search needs
-
-minus-requires-4 : tie.Need-minus-requires-4
-minus-requires-4 c κs = search needs
-
-minus-requires-5 : tie.Need-minus-requires-5
-minus-requires-5 c κs = search needs
-
-minus-requires-6 : tie.Need-minus-requires-6
-minus-requires-6 c κs = search needs
-
-minus-requires-7 : tie.Need-minus-requires-7
-minus-requires-7 c κs = search needs
-
 returns : tie.Need-returns
 unfolding count countsOfAll holders sharers changedBy withoutOpen
 returns c =
@@ -46,12 +22,12 @@ pub without-open-spec : {M : Type 1} → statement M
 without-open-spec =
     tie.close
     (tie.spec
-    counts-of-one-requires
-    minus-requires
-    minus-requires-2
-    minus-requires-3
-    minus-requires-4
-    minus-requires-5
-    minus-requires-6
-    minus-requires-7
+    (λ c κs. search needs)
+    (λ c κs. search needs)
+    (λ c κs. search needs)
+    (λ c κs. search needs)
+    (λ c κs. search needs)
+    (λ c κs. search needs)
+    (λ c κs. search needs)
+    (λ c κs. search needs)
     returns)

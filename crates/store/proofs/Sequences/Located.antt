@@ -1,6 +1,6 @@
 -- What the searches find in a consistent namespace: where a path leads, to a used file or to a directory without the
 -- name, and which stream of a file a name is.
-use Rattle.base.{specs.Base.{suc, zero, ℕ, any, first, isEmpty, same, _>>=_, passed, someOr, BareStream, Namespace, bareAt, bareUsed, zeroBare, statusNumber, fileNameLimit, fileUsed, isDirectory, linkUsed, root, zeroLink, FileNo, LinkNo, FileCorruptError, StreamNo, eqb, getD, Bool, _&&_, false, not, true, List, [], _∷_, map, Option, none, some, _≡_}, proofs.Laws.{and-left, and-right, any-same, any-count, first-found, first-none, Ends, ends-bind, ends-cond, goes, stops, eqb-true, false≢true, _∙_, ap, refl, sym, arith}}
+use Rattle.base.{specs.Base.{suc, zero, ℕ, any, first, isEmpty, same, _>>=_, passed, someOr, BareStream, Namespace, bareAt, bareUsed, zeroBare, statusNumber, fileNameLimit, fileUsed, isDirectory, linkUsed, root, zeroLink, FileNo, LinkNo, FileCorruptError, StreamNo, eqb, getD, Bool, _&&_, false, not, true, List, [], _∷_, map, Option, none, some, _≡_}, proofs.Laws.{and-left, and-right, any-same, any-count, after-found, none-iff, Ends, ends-bind, ends-cond, goes, stops, eqb-true, false≢true, _∙_, ap, refl, sym, arith}}
 use lib.Dec.{eqb·suc-zero}
 use Rattle.consistency.{proofs.Numbered.{directory-used, same-file}, specs.Relations.{streamOf, unnamedOf}}
 use Rattle.lookup.specs.Lookup.{Place, descend, findLink, found, foundRoot, linkMatches, linkNumber, locate, locateLeaf, missing, placeIn, stepInto}
@@ -62,14 +62,14 @@ module _ (ns : Namespace) (fold wd : Bool) (ok : NamespaceConsistent ns) where
             parent = i;
             leafFits = fits;
             nameValid = fits .fileValid named;
-            nameNew = first-none (linkMatches fold dir (leaf .file)) (ns .links) e;
+            nameNew = none-iff (linkMatches fold dir (leaf .file)) (ns .links) .1 e;
           }
       go (some n) e =
           let l = getD (ns .links) n zeroLink in
           ok .links .slots .usedGood n
           (matching-used fold (l .name) (leaf .file) named
           (and-right (eqb (l .parent .0) (dir .0)) (equalUnits fold (units (l .name)) (leaf .file))
-          (first-found (linkMatches fold dir (leaf .file)) zeroLink (ns .links) n e .passes)))
+          (after-found (linkMatches fold dir (leaf .file)) zeroLink (ns .links) 0 n e .passes)))
           .namesUsedFile
 
   pub located-ends : (path : Path) → LeafFits wd (path .leaf) → Ends Early (PlaceFits ns fold wd) (locate ns fold path)
@@ -104,14 +104,14 @@ unfolding findStream bareAt streamMatches streamNumber
 searched ns fold f name = go (first (streamMatches fold f name) (ns .streams)) refl
   where
     go : (o : Option ℕ) → first (streamMatches fold f name) (ns .streams) ≡ o → SearchFits ns fold f name (streamNumber o)
-    go none e = first-none (streamMatches fold f name) (ns .streams) e
+    go none e = none-iff (streamMatches fold f name) (ns .streams) .1 e
     go (some n) e =
         let b = getD (ns .streams) n zeroBare in
         let x = bareUsed b in
         let y = eqb (b .file .0) (f .0) in
         let h =
         and-left (x && y) (equalUnits fold (units (b .name)) name)
-        (first-found (streamMatches fold f name) zeroBare (ns .streams) n e .passes) in
+        (after-found (streamMatches fold f name) zeroBare (ns .streams) 0 n e .passes) in
         record {
           streamUsed = and-left x y h;
           streamFile = same-file (b .file) f (eqb-true (b .file .0) (f .0) (and-right x y h));

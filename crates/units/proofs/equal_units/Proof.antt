@@ -20,24 +20,6 @@ returns c =
 loop-holds : tie.Need-loop-holds Inv-loop μ-loop
 loop-holds c = (omega arith, c .if1 .left, refl)
 
-mul-folded-unit : tie.Need-mul-folded-unit Inv-loop μ-loop
-mul-folded-unit c = search needs
-
-shared-slice-read-folded-unit : tie.Need-shared-slice-read-folded-unit Inv-loop μ-loop
-shared-slice-read-folded-unit c = search needs
-
-folded-unit-requires : tie.Need-folded-unit-requires Inv-loop μ-loop
-folded-unit-requires c κs = search needs
-
-mul-folded-unit-2 : tie.Need-mul-folded-unit-2 Inv-loop μ-loop
-mul-folded-unit-2 c = search needs
-
-shared-slice-read-folded-unit-2 : tie.Need-shared-slice-read-folded-unit-2 Inv-loop μ-loop
-shared-slice-read-folded-unit-2 c = search needs
-
-folded-unit-requires-2 : tie.Need-folded-unit-requires-2 Inv-loop μ-loop
-folded-unit-requires-2 c κs = search needs
-
 returns-2 : tie.Need-returns-2 Inv-loop μ-loop
 returns-2 c =
     let l = c .before .before .before .before .before .before in
@@ -45,12 +27,6 @@ returns-2 c =
     sym
     (l .loop .inv .2
     ∙ equal-stops (s .fold) (s .a .now) (s .b .now) (l .loop .i) (omega arith) (omega arith) (λ e. c .if2 .taken (c .before .before .before .folded-unit .ensures ∙ e ∙ sym (c .before .folded-unit2 .ensures))))
-
-add-i : tie.Need-add-i Inv-loop μ-loop
-add-i c = search needs
-
-loop-less : tie.Need-loop-less Inv-loop μ-loop
-loop-less c = search needs
 
 loop-again : tie.Need-loop-again Inv-loop μ-loop
 loop-again c =
@@ -76,14 +52,14 @@ equal-units-spec =
     μ-loop
     returns
     loop-holds
-    mul-folded-unit
-    shared-slice-read-folded-unit
-    folded-unit-requires
-    mul-folded-unit-2
-    shared-slice-read-folded-unit-2
-    folded-unit-requires-2
+    (λ c. search needs)
+    (λ c. search needs)
+    (λ c κs. search needs)
+    (λ c. search needs)
+    (λ c. search needs)
+    (λ c κs. search needs)
     returns-2
-    add-i
-    loop-less
+    (λ c. search needs)
+    (λ c. search needs)
     loop-again
     returns-3)

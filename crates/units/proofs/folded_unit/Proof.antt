@@ -4,9 +4,6 @@ use Rattle.units.proofs.folded_unit.Statement.{statement}
 use Rattle.units.specs.Units.{folded}
 use Rattle.units.proofs.folded_unit.Tie as tie
 
-upper-unit-requires : tie.Need-upper-unit-requires
-upper-unit-requires c κs = search needs
-
 returns : tie.Need-returns
 unfolding folded
 returns c = rw (c .before .if1 .taken) (c .upper-unit .ensures)
@@ -16,4 +13,4 @@ unfolding folded
 returns-2 c = rw (c .if1 .left)
 
 pub folded-unit-spec : {M : Type 1} → statement M
-folded-unit-spec = tie.close (tie.spec upper-unit-requires returns returns-2)
+folded-unit-spec = tie.close (tie.spec (λ c κs. search needs) returns returns-2)

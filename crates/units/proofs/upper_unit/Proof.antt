@@ -4,9 +4,6 @@ use Rattle.units.proofs.upper_unit.Statement.{statement}
 use Rattle.units.specs.Units.{upper}
 use Rattle.units.proofs.upper_unit.Tie as tie
 
-sub-result : tie.Need-sub-result
-sub-result c = search needs
-
 returns : tie.Need-returns
 unfolding upper
 returns c = rw (le-leb 0x61 _ (c .before .if1 .left), le-leb (c .before .before .args .unit) 0x7A (omega arith))
@@ -20,4 +17,4 @@ unfolding upper
 returns-3 c = rw (le-leb 0x61 _ (c .before .if1 .left), lt-leb _ 0x7A (c .if2 .left))
 
 pub upper-unit-spec : {M : Type 1} → statement M
-upper-unit-spec = tie.close (tie.spec sub-result returns returns-2 returns-3)
+upper-unit-spec = tie.close (tie.spec (λ c. search needs) returns returns-2 returns-3)

@@ -1,54 +1,39 @@
--- `lookup::links::find_link` meets its contract. The invariant: the answer is what the rest of the table gives.
-use Rattle.base.{specs.Base.{ℕ, _-_, _≡_, Option, first, linkSlots, namespace}, proofs.Laws.{refl, sym, _∙_, arith, needs, answerFrom, answer-here, answer-next, answer-none}}
+-- `lookup::links::find_link` meets its contract: a turn of the loop looks at one link more.
+use Rattle.base.{specs.Base.{_-_, linkSlots, zeroLink, namespace}, proofs.Laws.{arith, needs, Searching, searching-begins, searching-finds, searching-turns, searching-ends}}
 use Rattle.layout.{specs.Layout.decode, proofs.Lengths.links-count}
 use Rattle.tables.specs.Tables.{linkAt}
 use Rattle.lookup.proofs.links.find_link.Statement.{statement}
-use Rattle.lookup.specs.{Lookup.{linkMatches, linkNumber, findLink}, Answers.foundLink, declared.FoundLink.FoundLink}
+use Rattle.lookup.specs.{Lookup.{linkMatches, linkNumber, findLink}, Answers.foundLink}
 use Rattle.lookup.proofs.links.find_link.Tie as tie
 
-abbrev found : Option ℕ → FoundLink
-found n = foundLink (linkNumber n)
-
 abbrev Inv-loop : tie.InvT-loop
-Inv-loop b dir name fold i₀ i =
-    let v = decode b .volume in
-    foundLink (findLink (namespace v) fold dir name) ≡ answerFrom found (linkMatches fold dir name) (v .links) i
+Inv-loop b dir name fold i₀ i = Searching (linkMatches fold dir name) (decode b .volume .links) 0 i
 
 abbrev μ-loop : tie.MeasureT-loop
 μ-loop b dir name fold i₀ i = linkSlots - i
 
-loop-holds : tie.Need-loop-holds Inv-loop μ-loop
-unfolding findLink first namespace
-loop-holds c = refl
-
 returns : tie.Need-returns Inv-loop μ-loop
-unfolding foundLink linkNumber linkAt
+unfolding foundLink findLink linkNumber namespace linkAt
 returns c =
     let m = c .before in
     let l = m .before .before in
-    let a = l .before .before .before .args in
-    let count = links-count (a .b .now) in
-    sym
-    (l .loop .inv
-    ∙ answer-here found (linkMatches (a .fold) (a .dir) (a .name .now)) (decode (a .b .now) .volume .links) (l .loop .i) _ (omega arith) (m .link-matches .ensures) (c .if1 .taken))
+    let n = links-count (l .before .before .before .args .b .now) in
+    rw (searching-finds (l .loop .inv) zeroLink (omega arith) (rw (← m .link-matches .ensures) (c .if1 .taken)))
 
 loop-again : tie.Need-loop-again Inv-loop μ-loop
 unfolding linkAt
 loop-again c =
     let m = c .before in
     let l = m .before .before in
-    let a = l .before .before .before .args in
-    let count = links-count (a .b .now) in
-    l .loop .inv
-    ∙ answer-next found (linkMatches (a .fold) (a .dir) (a .name .now)) (decode (a .b .now) .volume .links) (l .loop .i) _ (omega arith) (m .link-matches .ensures) (c .if1 .left)
+    let n = links-count (l .before .before .before .args .b .now) in
+    searching-turns (l .loop .inv) zeroLink (omega arith) (rw (← m .link-matches .ensures) (c .if1 .left))
 
 returns-2 : tie.Need-returns-2 Inv-loop μ-loop
-unfolding foundLink linkNumber
+unfolding foundLink findLink linkNumber namespace
 returns-2 c =
     let l = c .before in
-    let a = l .before .before .before .args in
-    let count = links-count (a .b .now) in
-    sym (l .loop .inv ∙ answer-none found (linkMatches (a .fold) (a .dir) (a .name .now)) (decode (a .b .now) .volume .links) (l .loop .i) (omega arith))
+    let n = links-count (l .before .before .before .args .b .now) in
+    rw (searching-ends (l .loop .inv) (omega arith))
 
 pub find-link-spec : {M : Type 1} → statement M
 find-link-spec =
@@ -56,7 +41,7 @@ find-link-spec =
     (tie.spec
     Inv-loop
     μ-loop
-    loop-holds
+    (λ c. searching-begins)
     (λ c. search needs)
     (λ c κs. search needs)
     returns

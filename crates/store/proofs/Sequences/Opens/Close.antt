@@ -1,5 +1,5 @@
 -- A handle among the opens: the one that has it, and the opens that are left when that one goes.
-use Rattle.base.{specs.Base.{_<_, ℕ, Permutation, all, any, both, find, first, keep, pairs, BareStream, openUsed, zeroOpen, Handle, Open, eqb, length, set, false, not, true, List, _∷_, Option, some, _≡_}, proofs.Laws.{refuted, excluded, and-left, and-right, not-is, not-isn't, all-at, none-of, keep-no, keep-others, pairs-keep-of, first-found, apart, find-found, perm-eq, perm-keep, perm-sym, eqb-true, _∙_, ap, subst, sym}}
+use Rattle.base.{specs.Base.{_<_, ℕ, Permutation, all, any, both, find, first, keep, pairs, BareStream, openUsed, zeroOpen, Handle, Open, eqb, length, set, false, not, true, List, _∷_, Option, some, _≡_}, proofs.Laws.{refuted, excluded, and-left, and-right, not-is, not-isn't, all-at, none-of, keep-no, keep-others, pairs-keep-of, after-found, apart, find-found, perm-eq, perm-keep, perm-sym, eqb-true, _∙_, ap, subst, sym}}
 use Rattle.consistency.{proofs.Numbered.same-handle, specs.Consistent.{OpensConsistent, openAt}}
 use Rattle.tables.specs.Tables.{live}
 use Rattle.store.specs.Store.{hasHandle, rowsWithoutOpen, stored}
@@ -55,7 +55,7 @@ pub struck : (h : Handle) (o : Open) (os : List Open) → find (hasHandle h) os 
 unfolding rowsWithoutOpen stored
 struck h o os e =
     let q = find-found (hasHandle h) zeroOpen os o e in
-    let f = first-found (hasHandle h) zeroOpen os (q .0) (q .1) in
+    let f = after-found (hasHandle h) zeroOpen os 0 (q .0) (q .1) in
     let has = subst (λ (x : Open). hasHandle h x ≡ true) (q .2) (f .passes) in
     record {
       slot = q .0;

@@ -1,5 +1,5 @@
 -- An open joins the table: it takes the lowest free slot.
-use Rattle.base.{specs.Base.{_<_, _≤_, suc, ℕ, Permutation, any, first, firstAfter, BareStream, openUsed, zeroOpen, Terms, termsOf, Handle, Open, StreamNo, length, set, _&&_, false, not, true, List, _∷_, Option, _≡_}, proofs.Laws.{excluded, not-both, not-is, none-kept-at, first-found, first-some, keep-set-in, eq-eqb, ne-eqb, not-true, _∙_, ap, refl, sym, arith}}
+use Rattle.base.{specs.Base.{_<_, _≤_, suc, ℕ, Permutation, any, BareStream, openUsed, zeroOpen, Terms, termsOf, Handle, Open, StreamNo, length, set, _&&_, false, not, true, List, _∷_, Option, _≡_}, proofs.Laws.{excluded, not-both, not-is, none-kept-at, after-found, found-iff, keep-set-in, eq-eqb, ne-eqb, not-true, _∙_, ap, refl, sym, arith}}
 use Rattle.consistency.specs.Consistent.{NoConflicts, OpensConsistent, openAt}
 use Rattle.sharing.{proofs.PairRule.conflicting-sym, specs.Sharing.{anyConflict, conflict, conflicting, onStream}}
 use Rattle.tables.specs.Tables.{live}
@@ -14,10 +14,10 @@ pub record Taken (o : Open) (os : List Open) : Type 0 where
   pub rows : rowsWithOpen o os ≡ set os slot o
 
 pub taken : (o : Open) (os : List Open) → any (λ q. not (openUsed q)) os ≡ true → Taken o os
-unfolding rowsWithOpen stored first firstAfter
+unfolding rowsWithOpen stored
 taken o os h =
-    let s = first-some (λ q. not (openUsed q)) os h in
-    let f = first-found (λ q. not (openUsed q)) zeroOpen os (s .0) (s .1) in
+    let s = found-iff (λ q. not (openUsed q)) os .0 h in
+    let f = after-found (λ q. not (openUsed q)) zeroOpen os 0 (s .0) (s .1) in
     record {
       slot = s .0;
       below = f .below;

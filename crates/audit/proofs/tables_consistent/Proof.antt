@@ -1,0 +1,81 @@
+-- `audit::tables_consistent` meets its contract: the tests are the parts of the whole.
+use Rattle.base.{specs.Base.{_≡_, Bool, true, false, not}, proofs.Laws.{sym, _∙_, not-true, not-false, needs}}
+use Rattle.consistency.specs.Test.{consistent}
+use Rattle.audit.proofs.tables_consistent.Statement.{statement}
+use Rattle.audit.proofs.tables_consistent.Tie as tie
+
+-- what the code found of a table, as its test says it
+passed : {found test : Bool} → found ≡ test → not found ≡ false → test ≡ true
+passed {found} e h = sym e ∙ not-false found h
+
+failed : {found test : Bool} → found ≡ test → not found ≡ true → test ≡ false
+failed {found} e h = sym e ∙ not-true found h
+
+returns : tie.Need-returns
+unfolding consistent
+returns c =
+    sym
+    (rw (
+      consistent,
+      failed (c .before .files-consistent .ensures) (c .if1 .taken),
+    ))
+
+returns-2 : tie.Need-returns-2
+unfolding consistent
+returns-2 c =
+    sym
+    (rw (
+      consistent,
+      passed (c .before .before .before .files-consistent .ensures) (c .before .before .if1 .left),
+      failed (c .before .links-consistent .ensures) (c .if2 .taken),
+    ))
+
+returns-3 : tie.Need-returns-3
+unfolding consistent
+returns-3 c =
+    sym
+    (rw (
+      consistent,
+      passed (c .before .before .before .before .before .files-consistent .ensures) (c .before .before .before .before .if1 .left),
+      passed (c .before .before .before .links-consistent .ensures) (c .before .before .if2 .left),
+      failed (c .before .streams-consistent .ensures) (c .if3 .taken),
+    ))
+
+returns-4 : tie.Need-returns-4
+unfolding consistent
+returns-4 c =
+    sym
+    (rw (
+      consistent,
+      passed (c .before .before .before .before .before .before .before .files-consistent .ensures) (c .before .before .before .before .before .before .if1 .left),
+      passed (c .before .before .before .before .before .links-consistent .ensures) (c .before .before .before .before .if2 .left),
+      passed (c .before .before .before .streams-consistent .ensures) (c .before .before .if3 .left),
+      failed (c .before .opens-consistent .ensures) (c .if4 .taken),
+    ))
+
+returns-5 : tie.Need-returns-5
+unfolding consistent
+returns-5 c =
+    rw (
+      consistent,
+      passed (c .before .before .before .before .before .before .before .before .files-consistent .ensures) (c .before .before .before .before .before .before .before .if1 .left),
+      passed (c .before .before .before .before .before .before .links-consistent .ensures) (c .before .before .before .before .before .if2 .left),
+      passed (c .before .before .before .before .streams-consistent .ensures) (c .before .before .before .if3 .left),
+      passed (c .before .before .opens-consistent .ensures) (c .before .if4 .left),
+    )
+    (c .no-conflicts .ensures)
+
+pub tables-consistent-spec : {M : Type 1} → statement M
+tables-consistent-spec =
+    tie.close
+    (tie.spec
+    (λ c κs. search needs)
+    returns
+    (λ c κs. search needs)
+    returns-2
+    (λ c κs. search needs)
+    returns-3
+    (λ c κs. search needs)
+    returns-4
+    (λ c κs. search needs)
+    returns-5)
