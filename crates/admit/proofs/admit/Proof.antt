@@ -1,15 +1,10 @@
 -- `admit::admit` meets its contract, by the kinds of target.
-use Rattle.base.{specs.Base.{suc, _>>=_, namespace, List, [], _∷_, length, eqb, isEmpty, ℕ, _≡_}, proofs.Laws.{refl, arith, ne-eqb, needs}}
+use Rattle.base.{specs.Base.{_>>=_, namespace}, proofs.Laws.{empty-length, needs}}
 use Rattle.store.specs.Prepare.{admit}
 use Rattle.paths.specs.Positions.{asLeaf}
 use Rattle.open_steps.specs.{Targets.{asTarget, asResolved}, Pendings.{asPending}}
 use Rattle.admit.proofs.admit.Statement.{statement}
 use Rattle.admit.proofs.admit.Tie as tie
-
-empty-length : (xs : List ℕ) → eqb (length xs) 0 ≡ isEmpty xs
-unfolding isEmpty
-empty-length [] = refl
-empty-length (x ∷ xs) = ne-eqb (suc (length xs)) 0 (λ e. omega arith)
 
 returns : tie.Need-returns
 unfolding asPending asTarget _>>=_
