@@ -65,7 +65,7 @@ fn grant(b: &[u8], r: Request, file: FileNo, access: u32) -> Access
     access_rule(read_file(b, file), r.account, access)
 }
 
-// Step 9: a new file's type, granted access and attributes.
+// Step 9: a new file's type.
 fn new_type(r: Request) -> FileType
     ensures { λ x. ⌜ x ≡ newType r ⌝ }
 {
@@ -76,36 +76,53 @@ fn new_type(r: Request) -> FileType
     }
 }
 
+// Its granted access: all of it where the maximum is asked.
 fn granted_new(access: u32) -> u32
     ensures { λ x. ⌜ x ≡ grantedNew access ⌝ }
 {
-    if bits::has(access, MAXIMUM_ALLOWED) { ALL_ACCESS } else { access }
+    if bits::has(access, MAXIMUM_ALLOWED) {
+        ALL_ACCESS
+    } else {
+        access
+    }
 }
 
+// Its attributes: those asked, the parent's not-content-indexed bit, and what its type has.
 fn attributes_new(r: Request, parent: File) -> u32
     ensures { λ x. ⌜ x ≡ attributesNew r parent ⌝ }
 {
     let own = bits::without(r.attributes & 0x3127, NOT_CONTENT_INDEXED);
-    let kind = if wants_directory(r) { DIRECTORY } else { ARCHIVE };
+    let kind = if wants_directory(r) {
+        DIRECTORY
+    } else {
+        ARCHIVE
+    };
     (own | (parent.attributes & NOT_CONTENT_INDEXED)) | kind
 }
 
-// What the parent's mask must have.
+// What the account's mask on the parent must have.
 fn add_right(r: Request) -> u32
     ensures { λ x. ⌜ x ≡ cond (wantsDirectory r) addSubdirectory addFile ⌝ }
 {
-    if wants_directory(r) { ADD_SUBDIRECTORY } else { ADD_FILE }
+    if wants_directory(r) {
+        ADD_SUBDIRECTORY
+    } else {
+        ADD_FILE
+    }
 }
 
+// Step 9: a temporary directory is refused before the parent's mask is.
 fn admit_file(b: &[u8], r: Request, dir: FileNo, leaf: LeafParts) -> PendingOpen
     requires { ⌜ length (now b) ≡ tablesSize ⌝ }
     ensures { λ x. ⌜ ((path : List ℕ) → asPending (decode (now (b .entry)) .volume .files) path x ≡ admitFile (namespace (decode (now (b .entry)) .volume)) r dir (asLeaf path leaf)) ⌝ }
 {
-    if wants_directory(r) & bits::has(r.attributes, TEMPORARY) {
+    let temporary_directory = wants_directory(r) & bits::has(r.attributes, TEMPORARY);
+    let parent = read_file(b, dir);
+    let may_add = bits::has(mask_of(parent, r.account), add_right(r));
+    if temporary_directory {
         return PendingOpen::Refused(Status::InvalidParameter);
     }
-    let parent = read_file(b, dir);
-    if !bits::has(mask_of(parent, r.account), add_right(r)) {
+    if !may_add {
         return PendingOpen::Refused(Status::AccessDenied);
     }
     PendingOpen::NewFile(FileToAdd {
@@ -132,7 +149,13 @@ fn read_sharing(r: Request, f: File) -> SharingRule
 }
 
 // Steps 10 and 11, open or open-if of what was found.
-fn admit_open(b: &[u8], r: Request, file: FileNo, stream: StreamNo, read_sharing: SharingRule) -> PendingOpen
+fn admit_open(
+    b: &[u8],
+    r: Request,
+    file: FileNo,
+    stream: StreamNo,
+    read_sharing: SharingRule,
+) -> PendingOpen
     requires { ⌜ length (now b) ≡ tablesSize ⌝ }
     ensures { λ x. ⌜ ((path : List ℕ) → asPending (decode (now (b .entry)) .volume .files) path x ≡ admitOpen (namespace (decode (now (b .entry)) .volume)) r file stream (asReadSharing «read_sharing»)) ⌝ }
 {
@@ -151,7 +174,7 @@ fn admit_open(b: &[u8], r: Request, file: FileNo, stream: StreamNo, read_sharing
     }
 }
 
-// Step 11, stream found, supersede, overwrite or overwrite-if: the file is hidden or system, and was not so asked.
+// The file is hidden or system, and was not so asked.
 fn hidden_or_system(r: Request, f: File) -> bool
     ensures { λ x. ⌜ x ≡ hiddenOrSystem r f ⌝ }
 {
@@ -159,14 +182,21 @@ fn hidden_or_system(r: Request, f: File) -> bool
         | (bits::has(f.attributes, SYSTEM) & !bits::has(r.attributes, SYSTEM))
 }
 
-// What the access gains before the access rule.
+// What the access gains before the access rule: the bits for the file's attributes where its stream without a name is
+// replaced, and those for the replacing itself.
 fn gained(r: Request, unnamed: bool) -> u32
     ensures { λ x. ⌜ x ≡ gained r unnamed ⌝ }
 {
-    let more = if r.disposition == SUPERSEDE { DELETE } else { WRITE_DATA };
-    if unnamed { 0x110 | more } else { more }
+    let for_attributes = if unnamed { 0x110 } else { 0 };
+    let more = if r.disposition == SUPERSEDE {
+        DELETE
+    } else {
+        WRITE_DATA
+    };
+    for_attributes | more
 }
 
+// What is done to the stream.
 fn replacing(r: Request) -> CreateAction
     ensures { λ x. ⌜ x ≡ replacing r ⌝ }
 {
@@ -177,6 +207,7 @@ fn replacing(r: Request) -> CreateAction
     }
 }
 
+// The file's attributes: replaced with its stream without a name.
 fn replacement(r: Request, unnamed: bool) -> NewAttributes
     ensures { λ x. ⌜ asAttributes x ≡ replacement r unnamed ⌝ }
 {
@@ -187,6 +218,7 @@ fn replacement(r: Request, unnamed: bool) -> NewAttributes
     }
 }
 
+// Step 11, stream found, to be replaced: the file's attributes are looked at as they were.
 fn admit_replace(b: &[u8], r: Request, file: FileNo, stream: StreamNo, unnamed: bool) -> PendingOpen
     requires { ⌜ length (now b) ≡ tablesSize ⌝ }
     ensures { λ x. ⌜ ((path : List ℕ) → asPending (decode (now (b .entry)) .volume .files) path x ≡ admitReplace (namespace (decode (now (b .entry)) .volume)) r file stream unnamed) ⌝ }
@@ -209,7 +241,7 @@ fn admit_replace(b: &[u8], r: Request, file: FileNo, stream: StreamNo, unnamed: 
     }
 }
 
-// Step 11, stream missing.
+// Step 11, stream missing: the access rule first, then the volume's mark.
 fn admit_stream(b: &[u8], r: Request, file: FileNo, leaf: LeafParts) -> PendingOpen
     requires { ⌜ length (now b) ≡ tablesSize ⌝ }
     ensures { λ x. ⌜ ((path : List ℕ) → asPending (decode (now (b .entry)) .volume .files) path x ≡ admitStream (namespace (decode (now (b .entry)) .volume)) r file (asLeaf path leaf)) ⌝ }
@@ -231,7 +263,7 @@ fn admit_stream(b: &[u8], r: Request, file: FileNo, leaf: LeafParts) -> PendingO
     })
 }
 
-// The access to a stream that was found.
+// Step 11, stream found: opened, or replaced.
 fn admit_found(b: &[u8], r: Request, file: FileNo, stream: StreamNo, unnamed: bool) -> PendingOpen
     requires { ⌜ length (now b) ≡ tablesSize ⌝ }
     ensures { λ x. ⌜ ((path : List ℕ) → asPending (decode (now (b .entry)) .volume .files) path x ≡ cond (oneOf (r .disposition) (openOnly ∷ openIf ∷ [])) (admitOpen (namespace (decode (now (b .entry)) .volume)) r file stream asOffered) (admitReplace (namespace (decode (now (b .entry)) .volume)) r file stream unnamed)) ⌝ }
@@ -243,7 +275,7 @@ fn admit_found(b: &[u8], r: Request, file: FileNo, stream: StreamNo, unnamed: bo
     }
 }
 
-// The access to a target.
+// The access to a target; a refusal of an earlier step stays.
 pub fn admit(b: &[u8], r: Request, path: &[u16], target: FoundTarget) -> PendingOpen
     requires { ⌜ length (now b) ≡ tablesSize ⌝ }
     ensures { λ x. ⌜ asPending (decode (now (b .entry)) .volume .files) (now (path .entry)) x ≡ admitted (namespace (decode (now (b .entry)) .volume)) r (asTarget (now (path .entry)) target) ⌝ }

@@ -1,6 +1,7 @@
 -- Two lists of numbers are the same.
-use Prim.Native.Nat.{ℕ, _+_, _≤_, _<_}
+use Prim.Native.Nat.{ℕ, suc, _+_, _≤_, _<_}
 use borrow.Author.Tests.{eq-eqb, ne-eqb, eqb-true}
+use native.Mathlib.Omega.{arith}
 use lib.{Dec.eqb, ListN.{length, getD, drop, drop-of-length-le}}
 use mathlib.Core.{Path.{_≡_, refl, sym, _∙_, ap, ap₂}, Bool.{true, false, false≢true}, List.{List, [], _∷_, _++_}, Logic._↔_}
 use Rattle.lists.proofs.{Tests.{refuted, and-left, and-right, and-both}, Places.drop-next}
@@ -27,6 +28,12 @@ pub empty-is : (xs : List ℕ) → isEmpty xs ≡ true → xs ≡ []
 unfolding isEmpty
 empty-is [] h = refl
 empty-is (x ∷ xs) h = absurd (false≢true h)
+
+-- a length tells whether anything is there
+pub empty-length : {A : Type 0} (xs : List A) → eqb (length xs) 0 ≡ isEmpty xs
+unfolding isEmpty
+empty-length [] = refl
+empty-length (x ∷ xs) = ne-eqb (suc (length xs)) 0 (λ e. omega arith)
 
 -- by the first two numbers
 module _ (x y : ℕ) (xs ys : List ℕ) where

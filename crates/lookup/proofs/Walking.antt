@@ -1,6 +1,6 @@
 -- The walk at a place of the path before the last component: at its end, at a component that leads into a directory, and
 -- at one that does not.
-use Rattle.base.{specs.Base.{ℕ, _≡_, Bool, true, false, cond, List, [], _∷_, Option, none, some, length, drop, isEmpty, root, isDirectory, Namespace, namespace, Checked, refused, passed, refuse, _>>=_, Status, ObjectPathNotFound, FileNo, LinkNo, FileType, Volume}, proofs.Laws.{refl, arith}}
+use Rattle.base.{specs.Base.{ℕ, _≡_, Bool, true, false, cond, List, [], _∷_, Option, none, some, drop, isEmpty, root, isDirectory, Namespace, namespace, Checked, refused, passed, refuse, _>>=_, Status, ObjectPathNotFound, FileNo, LinkNo, FileType, Volume}, proofs.Laws.{refl}}
 use Rattle.components.{specs.{Components.components, Positions.{nextComponent, partOf}}, proofs.Places.{next-found, next-none}}
 use Rattle.paths.specs.Paths.{Leaf}
 use Rattle.tables.specs.Tables.{fileAt, linkAt}
@@ -69,16 +69,6 @@ placeFrom ns leaf (End.Missing dir) = passed (missing dir leaf)
 placeFrom ns leaf (End.Refused s) = refuse s
 
 -- a name without units is none
-pub name-empty : (us : List ℕ) → length us ≡ 0 → isEmpty us ≡ true
-unfolding isEmpty
-name-empty [] e = refl
-name-empty (u ∷ us) e = absurd (let z : ⊥ = omega arith in z)
-
-pub name-given : (us : List ℕ) → (length us ≡ 0 → ⊥) → isEmpty us ≡ false
-unfolding isEmpty
-name-given [] e = absurd (e refl)
-name-given (u ∷ us) e = refl
-
 module _ (ns : Namespace) (fold : Bool) (parents : List (List ℕ)) (leaf : Leaf) where
   pub root-leads : isEmpty (leaf .file) ≡ true → passed foundRoot ≡ locate ns fold (record { parents = parents; leaf = leaf })
   unfolding locate

@@ -1,5 +1,5 @@
 -- Laws of valid units and names, as the code tests them.
-use Rattle.base.{specs.Base.{ℕ, _≤_, _<_, _≡_, Bool, true, false, not, _&&_, _||_, List, [], _∷_, _⊎_, inl, inr, eqb, leb, length, getD, all, any, isEmpty, oneOf, same}, proofs.Laws.{refl, arith, le-leb, lt-leb, ne-eqb, eqb-true, eqb-false, same-lengths}}
+use Rattle.base.{specs.Base.{ℕ, _≤_, _<_, _≡_, Bool, true, false, not, _&&_, _||_, List, [], _∷_, _⊎_, inl, inr, eqb, leb, length, getD, all, any, isEmpty, oneOf, same}, proofs.Laws.{refl, arith, le-leb, lt-leb, empty-length, eq-eqb, ne-eqb, eqb-true, eqb-false, same-lengths}}
 use Rattle.units.specs.Units.{dot}
 use Rattle.names.specs.Names.{validUnit, validFileName, validStreamName}
 
@@ -103,13 +103,9 @@ module _ (limit : ℕ) (n : List ℕ) where
       go false one two e = refl
 
   pub file-name-other : (length n ≡ 0 → ⊥) → dots n ≡ false → validFileName limit n ≡ validStreamName limit n
-  unfolding validFileName validStreamName isEmpty
-  file-name-other some e = rw (not-empty n some) (go (leb (length n) limit) (same n (dot ∷ [])) (same n (dot ∷ dot ∷ [])) e)
+  unfolding validFileName validStreamName
+  file-name-other some e = rw (← empty-length n, ne-eqb (length n) 0 some) (go (leb (length n) limit) (same n (dot ∷ [])) (same n (dot ∷ dot ∷ [])) e)
     where
-      not-empty : (m : List ℕ) → (length m ≡ 0 → ⊥) → isEmpty m ≡ false
-      not-empty [] h = absurd (h refl)
-      not-empty (u ∷ us) h = refl
-
       go : (x one two : Bool) → (one || two) ≡ false → (x && not one && not two && all validUnit n) ≡ (x && all validUnit n)
       go true true two e = cc
       go true false true e = cc
@@ -117,6 +113,5 @@ module _ (limit : ℕ) (n : List ℕ) where
       go false one two e = refl
 
 pub file-name-empty : (limit : ℕ) (n : List ℕ) → length n ≡ 0 → validFileName limit n ≡ false
-unfolding validFileName isEmpty
-file-name-empty limit [] e = refl
-file-name-empty limit (u ∷ us) e = absurd (omega arith)
+unfolding validFileName
+file-name-empty limit n e = rw (← empty-length n, eq-eqb (length n) 0 e)

@@ -1,66 +1,54 @@
-use borrow.Author.Needs.{needs}
+-- `admit::admit_file` meets its contract: the tests are the definition's, in its order.
+use Rattle.base.{specs.Base.{_≡_, cond, _&&_, has, addSubdirectory, addFile, temporary, maskOf, _>>_, refuseIf, namespace}, proofs.Laws.{needs}}
+use Rattle.layout.specs.Layout.{decode}
+use Rattle.tables.specs.Tables.{fileAt}
+use Rattle.store.specs.{Request.wantsDirectory, Prepare.{admitFile, fileNew}}
+use Rattle.open_steps.specs.Pendings.{asPending, asFile}
 use Rattle.admit.proofs.admit_file.Statement.{statement}
 use Rattle.admit.proofs.admit_file.Tie as tie
-use Rattle.admit.proofs.admit_file.Reads as reads
-use Rattle.admit.proofs.admit_file.Lts as lts
-use Rattle.access.proofs.mask_of.Reads as mask-of-reads
-use Rattle.admit.proofs.add_right.Reads as add-right-reads
-use Rattle.admit.proofs.attributes_new.Reads as attributes-new-reads
-use Rattle.admit.proofs.granted_new.Reads as granted-new-reads
-use Rattle.admit.proofs.new_type.Reads as new-type-reads
-use Rattle.bits.proofs.has.Reads as has-reads
-use Rattle.records_files.proofs.read_file.Reads as read-file-reads
-use Rattle.request_checks.proofs.wants_directory.Reads as wants-directory-reads
 
-wants-directory-requires : tie.Need-wants-directory-requires
-wants-directory-requires c κs = search needs
+module _ (h : tie.After-has2) where
+  asks-temporary : let t = h .before .before .before .before in
+      let r = t .before .before .before .args .r in
+      (t .before .wants-directory .result && t .has .result) ≡ (wantsDirectory r && has (r .attributes) temporary)
+  asks-temporary =
+      let t = h .before .before .before .before in
+      rw (t .before .wants-directory .ensures, t .has .ensures)
 
-has-requires : tie.Need-has-requires
-has-requires c κs = search needs
+  may-add : let s = h .before .before .before .before .before .before .before .args in
+      h .has2 .result
+      ≡ has (maskOf (fileAt (decode (s .b .now) .volume .files) (s .dir)) (s .r .account)) (cond (wantsDirectory (s .r)) addSubdirectory addFile)
+  may-add =
+      let m = h .before .before in
+      rw (← h .before .add-right .ensures, ← m .before .read-file .ensures, ← m .mask-of .ensures) (h .has2 .ensures)
 
 returns : tie.Need-returns
-returns c = ?
-
-read-file-requires : tie.Need-read-file-requires
-read-file-requires c κs = search needs
-
-mask-of-requires : tie.Need-mask-of-requires
-mask-of-requires c κs = search needs
-
-add-right-requires : tie.Need-add-right-requires
-add-right-requires c κs = search needs
-
-has-requires-2 : tie.Need-has-requires-2
-has-requires-2 c κs = search needs
+unfolding asPending admitFile refuseIf _>>_
+returns c path = rw (← asks-temporary (c .before), c .if1 .taken)
 
 returns-2 : tie.Need-returns-2
-returns-2 c = ?
-
-new-type-requires : tie.Need-new-type-requires
-new-type-requires c κs = search needs
-
-attributes-new-requires : tie.Need-attributes-new-requires
-attributes-new-requires c κs = search needs
-
-granted-new-requires : tie.Need-granted-new-requires
-granted-new-requires c κs = search needs
+unfolding asPending admitFile refuseIf _>>_ namespace
+returns-2 c path =
+    let i = c .before in
+    rw (← may-add (i .before), ← asks-temporary (i .before), i .if1 .left, c .if2 .taken)
 
 returns-3 : tie.Need-returns-3
-returns-3 c = ?
+unfolding asPending admitFile refuseIf _>>_ namespace asFile fileNew
+returns-3 c path =
+    let n = c .before .before in
+    let i = n .before .before in
+    rw (
+      ← may-add (i .before),
+      ← asks-temporary (i .before),
+      i .if1 .left,
+      n .before .if2 .left,
+      ← i .before .before .before .before .read-file .ensures,
+      ← n .new-type .ensures,
+      ← c .before .attributes-new .ensures,
+      ← c .granted-new .ensures,
+    )
 
 pub admit-file-spec : {M : Type 1} → statement M
 admit-file-spec =
     tie.close
-    (tie.spec
-    wants-directory-requires
-    has-requires
-    returns
-    read-file-requires
-    mask-of-requires
-    add-right-requires
-    has-requires-2
-    returns-2
-    new-type-requires
-    attributes-new-requires
-    granted-new-requires
-    returns-3)
+    (tie.spec (λ c κs. search needs) (λ c κs. search needs) (λ c κs. search needs) (λ c κs. search needs) (λ c κs. search needs) (λ c κs. search needs) returns returns-2 (λ c κs. search needs) (λ c κs. search needs) (λ c κs. search needs) returns-3)

@@ -1,28 +1,19 @@
-use borrow.Author.Needs.{needs}
+-- `admit::admit_found` meets its contract, by its test.
+use Rattle.base.proofs.Laws.{needs}
+use Rattle.open_steps.specs.Pendings.{asReadSharing}
 use Rattle.admit.proofs.admit_found.Statement.{statement}
 use Rattle.admit.proofs.admit_found.Tie as tie
-use Rattle.admit.proofs.admit_found.Reads as reads
-use Rattle.admit.proofs.admit_found.Lts as lts
-use Rattle.admit.proofs.admit_open.Reads as admit-open-reads
-use Rattle.admit.proofs.admit_replace.Reads as admit-replace-reads
-use Rattle.request_checks.proofs.only_opens.Reads as only-opens-reads
-
-only-opens-requires : tie.Need-only-opens-requires
-only-opens-requires c κs = search needs
-
-admit-open-requires : tie.Need-admit-open-requires
-admit-open-requires c κs = search needs
-
-admit-replace-requires : tie.Need-admit-replace-requires
-admit-replace-requires c κs = search needs
 
 returns : tie.Need-returns
-returns c = ?
+unfolding asReadSharing
+returns c path =
+    let i = c .before in
+    rw (← i .before .only-opens .ensures, i .if1 .taken) (c .admit-open .ensures path)
 
 returns-2 : tie.Need-returns-2
-returns-2 c = ?
+returns-2 c path =
+    let i = c .before in
+    rw (← i .before .only-opens .ensures, i .if1 .left) (c .admit-replace .ensures path)
 
 pub admit-found-spec : {M : Type 1} → statement M
-admit-found-spec =
-    tie.close
-    (tie.spec only-opens-requires admit-open-requires admit-replace-requires returns returns-2)
+admit-found-spec = tie.close (tie.spec (λ c κs. search needs) (λ c κs. search needs) (λ c κs. search needs) returns returns-2)

@@ -1,45 +1,36 @@
-use borrow.Author.Needs.{needs}
+-- `admit::admit_stream` meets its contract: the access rule, then the volume's mark.
+use Rattle.base.{specs.Base.{_>>=_, _>>_, refuseIf, namespace}, proofs.Laws.{needs}}
+use Rattle.access.specs.Access.{checkedAccess}
+use Rattle.store.specs.Prepare.{grant, admitStream}
+use Rattle.open_steps.specs.Pendings.{asPending}
 use Rattle.admit.proofs.admit_stream.Statement.{statement}
 use Rattle.admit.proofs.admit_stream.Tie as tie
-use Rattle.admit.proofs.admit_stream.Reads as reads
-use Rattle.admit.proofs.admit_stream.Lts as lts
-use Rattle.admit.proofs.grant.Reads as grant-reads
-use Rattle.records_files.proofs.read_file.Reads as read-file-reads
-use Rattle.records_volume.proofs.read_mark.Reads as read-mark-reads
-
-grant-requires : tie.Need-grant-requires
-grant-requires c κs = search needs
-
-enum-known-access : tie.Need-enum-known-access
-enum-known-access c = search needs
-
-enum-told : tie.Need-enum-told
-enum-told c = search needs
 
 returns : tie.Need-returns
-returns c = ?
-
-read-mark-requires : tie.Need-read-mark-requires
-read-mark-requires c κs = search needs
+unfolding asPending admitStream grant checkedAccess _>>=_ namespace
+returns c path = rw (← c .before .before .grant .ensures, c .enum-told .given .1)
 
 returns-2 : tie.Need-returns-2
-returns-2 c = ?
-
-read-file-requires : tie.Need-read-file-requires
-read-file-requires c κs = search needs
+unfolding asPending admitStream refuseIf _>>_ grant checkedAccess _>>=_ namespace
+returns-2 c path =
+    let m = c .before in
+    let k = m .before .before in
+    rw (← k .before .before .grant .ensures, k .access .given .1, ← m .read-mark .ensures, c .if1 .taken)
 
 returns-3 : tie.Need-returns-3
-returns-3 c = ?
+unfolding asPending admitStream refuseIf _>>_ grant checkedAccess _>>=_ namespace
+returns-3 c path =
+    let f = c .before in
+    let m = f .before .before in
+    let k = m .before .before in
+    rw (
+      ← k .before .before .grant .ensures,
+      k .access .given .1,
+      ← m .read-mark .ensures,
+      f .before .if1 .left,
+      ← f .read-file .ensures,
+    )
 
 pub admit-stream-spec : {M : Type 1} → statement M
 admit-stream-spec =
-    tie.close
-    (tie.spec
-    grant-requires
-    enum-known-access
-    enum-told
-    returns
-    read-mark-requires
-    returns-2
-    read-file-requires
-    returns-3)
+    tie.close (tie.spec (λ c κs. search needs) (λ c. search needs) (λ c. search needs) returns (λ c κs. search needs) returns-2 (λ c κs. search needs) returns-3)

@@ -1,19 +1,16 @@
-use borrow.Author.Needs.{needs}
+-- `admit::attributes_new` meets its contract, by its test.
+use Rattle.base.proofs.Laws.{⊎-elim, needs}
+use Rattle.store.specs.Prepare.{attributesNew}
 use Rattle.admit.proofs.attributes_new.Statement.{statement}
 use Rattle.admit.proofs.attributes_new.Tie as tie
-use Rattle.admit.proofs.attributes_new.Reads as reads
-use Rattle.admit.proofs.attributes_new.Lts as lts
-use Rattle.bits.proofs.without.Reads as without-reads
-use Rattle.request_checks.proofs.wants_directory.Reads as wants-directory-reads
-
-without-requires : tie.Need-without-requires
-without-requires c κs = search needs
-
-wants-directory-requires : tie.Need-wants-directory-requires
-wants-directory-requires c κs = search needs
 
 returns : tie.Need-returns
-returns c = ?
+unfolding attributesNew
+returns c =
+    let i = c .before .before in
+    let w = i .before in
+    rw (← w .before .without .ensures, ← w .wants-directory .ensures)
+    (⊎-elim (λ t. rw (t .0 .taken, t .1)) (λ t. rw (t .0 .left, t .1)) (i .if1 .came))
 
 pub attributes-new-spec : {M : Type 1} → statement M
-attributes-new-spec = tie.close (tie.spec without-requires wants-directory-requires returns)
+attributes-new-spec = tie.close (tie.spec (λ c κs. search needs) (λ c κs. search needs) returns)

@@ -1,18 +1,16 @@
-use borrow.Author.Needs.{needs}
+-- `admit::granted_new` meets its contract, by its test.
+use Rattle.base.proofs.Laws.{needs}
+use Rattle.store.specs.Prepare.{grantedNew}
 use Rattle.admit.proofs.granted_new.Statement.{statement}
 use Rattle.admit.proofs.granted_new.Tie as tie
-use Rattle.admit.proofs.granted_new.Reads as reads
-use Rattle.admit.proofs.granted_new.Lts as lts
-use Rattle.bits.proofs.has.Reads as has-reads
-
-has-requires : tie.Need-has-requires
-has-requires c κs = search needs
 
 returns : tie.Need-returns
-returns c = ?
+unfolding grantedNew
+returns c = rw (← c .before .has .ensures, c .if1 .taken)
 
 returns-2 : tie.Need-returns-2
-returns-2 c = ?
+unfolding grantedNew
+returns-2 c = rw (← c .before .has .ensures, c .if1 .left)
 
 pub granted-new-spec : {M : Type 1} → statement M
-granted-new-spec = tie.close (tie.spec has-requires returns returns-2)
+granted-new-spec = tie.close (tie.spec (λ c κs. search needs) returns returns-2)

@@ -1,18 +1,17 @@
-use borrow.Author.Needs.{needs}
+-- `admit::replacement` meets its contract, by its test.
+use Rattle.base.proofs.Laws.{needs}
+use Rattle.store.specs.Prepare.{replacement}
+use Rattle.open_steps.specs.Pendings.{asAttributes}
 use Rattle.admit.proofs.replacement.Statement.{statement}
 use Rattle.admit.proofs.replacement.Tie as tie
-use Rattle.admit.proofs.replacement.Reads as reads
-use Rattle.admit.proofs.replacement.Lts as lts
-use Rattle.bits.proofs.without.Reads as without-reads
-
-without-requires : tie.Need-without-requires
-without-requires c κs = search needs
 
 returns : tie.Need-returns
-returns c = ?
+unfolding asAttributes replacement
+returns c = rw (c .before .before .if1 .taken, c .without .ensures)
 
 returns-2 : tie.Need-returns-2
-returns-2 c = ?
+unfolding asAttributes replacement
+returns-2 c = rw (c .if1 .left)
 
 pub replacement-spec : {M : Type 1} → statement M
-replacement-spec = tie.close (tie.spec without-requires returns returns-2)
+replacement-spec = tie.close (tie.spec (λ c κs. search needs) returns returns-2)

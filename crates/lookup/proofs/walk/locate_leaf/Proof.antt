@@ -1,9 +1,9 @@
 -- `lookup::walk::locate_leaf` meets its contract: each end of the walk, as the place that it leads to.
-use Rattle.base.{specs.Base.{_≡_, true, false, List, ℕ, some, isEmpty, namespace, passed, FileNo}, proofs.Laws.{sym, ap, subst, _∙_, needs}}
+use Rattle.base.{specs.Base.{_≡_, some, namespace, passed, FileNo}, proofs.Laws.{sym, ap, _∙_, eq-eqb, ne-eqb, empty-length, needs}}
 use Rattle.components.specs.Positions.{parentsOf}
 use Rattle.layout.specs.Layout.{decode}
 use Rattle.paths.specs.Positions.{asLeaf}
-use Rattle.lookup.proofs.{Walking.{placeFrom, name-empty, name-given, root-leads, walk-leads}, walk.locate_leaf.Statement.statement}
+use Rattle.lookup.proofs.{Walking.{placeFrom, root-leads, walk-leads}, walk.locate_leaf.Statement.statement}
 use Rattle.lookup.specs.{Lookup.{found, locate}, Answers.{pathTo, asPlace}, declared.Walked.Walked}
 use Rattle.lookup.proofs.walk.locate_leaf.Tie as tie
 
@@ -19,14 +19,14 @@ leads w e =
     let leaf = asLeaf (s .path .now) (s .leaf) in
     ap (placeFrom ns leaf) (sym e ∙ w .walk-path .ensures)
     ∙ walk-leads ns (s .fold) (parentsOf (s .path .now) (s .leaf .file)) leaf
-    (subst (λ (us : List ℕ). isEmpty us ≡ false) (w .before .before .part-of .ensures) (name-given _ (w .before .if1 .left)))
+    (rw (← w .before .before .part-of .ensures, ← empty-length) (ne-eqb _ _ (w .before .if1 .left)))
 
 returns : tie.Need-returns
 unfolding asPlace asLeaf
 returns c =
     let s = c .before .before .before .before .before .args in
     root-leads (namespace (decode (s .b .now) .volume)) (s .fold) (parentsOf (s .path .now) (s .leaf .file)) (asLeaf (s .path .now) (s .leaf))
-    (subst (λ (us : List ℕ). isEmpty us ≡ true) (c .before .part-of .ensures) (name-empty _ (c .if1 .taken)))
+    (rw (← c .before .part-of .ensures, ← empty-length) (eq-eqb _ _ (c .if1 .taken)))
 
 returns-2 : tie.Need-returns-2
 unfolding asPlace placeFrom namespace
