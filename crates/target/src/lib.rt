@@ -66,12 +66,13 @@ fn target_new(b: &[u8], r: Request, dir: FileNo, leaf: LeafParts) -> FoundTarget
     FoundTarget::NoFile(dir, leaf)
 }
 
-// Step 8: what was found is of the type asked for, or a refusal.
+// Step 8: what was found is of the type asked for, or the step refuses.
 enum TypeCheck {
     Passed,
     Refused(Status),
 }
 
+// Refused where the type is wrong: a collision where the disposition is create.
 fn refuse_type(r: Request, wrong: bool, status: Status) -> TypeCheck
     ensures { λ x. ⌜ asCheck x ≡ refuseIf wrong (cond (eqb (r .disposition) create) ObjectNameCollision status) ⌝ }
 {
@@ -84,6 +85,7 @@ fn refuse_type(r: Request, wrong: bool, status: Status) -> TypeCheck
     TypeCheck::Refused(status)
 }
 
+// A directory that a file or a colon is asked of, or a file that a directory is asked of.
 fn check_type(r: Request, leaf: LeafParts, is_dir: bool) -> TypeCheck
     ensures { λ x. ⌜ ((path : List ℕ) → asCheck x ≡ wrongType r (asLeaf path leaf) «is_dir») ⌝ }
 {
