@@ -50,9 +50,9 @@ pub fn find_open(b: &[u8], h: Handle) -> OpenSlot
     if h.0 == 0 {
         return OpenSlot::Full;
     }
-    for i in 0..OPEN_SLOTS {
-        if read_handle(b, i).0 == h.0 {
-            return OpenSlot::At(i);
+    for row in 0..OPEN_SLOTS {
+        if read_handle(b, row).0 == h.0 {
+            return OpenSlot::At(row);
         }
     }
     OpenSlot::Full

@@ -7,10 +7,10 @@ use Rattle.open_table.specs.Rows.{rowSlot, hasHandle}
 use Rattle.open_table.proofs.find_open.Tie as tie
 
 abbrev Inv-loop : tie.InvT-loop
-Inv-loop b h i₀ i = Searching (hasHandle h) (decode b .opens .rows) 0 i
+Inv-loop b h row₀ row = Searching (hasHandle h) (decode b .opens .rows) 0 row
 
 abbrev μ-loop : tie.MeasureT-loop
-μ-loop b h i₀ i = openSlots - i
+μ-loop b h row₀ row = openSlots - row
 
 returns : tie.Need-returns Inv-loop μ-loop
 unfolding rowSlot
