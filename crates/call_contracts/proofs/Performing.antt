@@ -53,7 +53,7 @@ module _ (answer : Tables → Checked (Step Tables)) (bs : List ℕ) where
   asking t = whenConsistent t (answer t)
 
   pub performs-unsound : Bytes bs → soundBytes bs ≡ false → Performs (refusal FileCorruptError) bs bs asking
-  unfolding soundBytes whenConsistent
+  unfolding soundBytes whenConsistent concluded refuseIf _>>_
   performs-unsound b e =
       by-cases (standsForTables bs)
       (λ s. performs-refusal asking bs b s FileCorruptError (rw (rw s at e)))
@@ -64,5 +64,5 @@ module _ (answer : Tables → Checked (Step Tables)) (bs : List ℕ) where
   sound-stands e = and-left (standsForTables bs) _ e
 
   pub sound-asks : soundBytes bs ≡ true → asking (decode bs) ≡ concluded (decode bs) (answer (decode bs))
-  unfolding soundBytes whenConsistent
+  unfolding soundBytes whenConsistent concluded refuseIf _>>_
   sound-asks e = rw (and-right (standsForTables bs) _ e)
