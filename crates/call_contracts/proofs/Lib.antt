@@ -1,2 +1,3 @@
 pub mod Performing
 pub mod Closed
+pub mod Sequences
