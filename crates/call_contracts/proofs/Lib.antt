@@ -1,1 +1,3 @@
 pub mod Performing
+pub mod Decided
+pub mod Opened
