@@ -87,12 +87,12 @@ module _ (bytes masks : List ℕ) (readOnly : Bool) (a : Answer) (left : List �
   format-done = rw (← same-reply bytes masks readOnly right-length, formatted bytes masks readOnly right-length valid)
 
 pub every-sequence-of-calls : EverySequenceOfCalls
-every-sequence-of-calls bytes m masks readOnly a left answered done calls answers after made =
-    let f = format-left bytes masks readOnly a left answered done in
-    let agree = every-sequence (decode bytes) m masks readOnly (format-done bytes masks readOnly a left answered done) calls in
-    let run = rw (f .is) at (follows made (f .stands)) in
+every-sequence-of-calls bytes m masks readOnly a left formats done calls answers after made =
+    let f = format-left bytes masks readOnly a left formats done in
+    let agree = every-sequence (decode bytes) m masks readOnly (format-done bytes masks readOnly a left formats done) calls in
+    let ran = rw (f .is) at (follows made (f .stands)) in
     record {
-      sameAnswers = run .sameAnswers ∙ ap (map seen) (agree .sameReplies);
-      bytesStandFor = run .bytesStandFor;
+      sameAnswers = ran .sameAnswers ∙ ap (map seen) (agree .sameReplies);
+      bytesStandFor = ran .bytesStandFor;
       agree = agree;
     }
