@@ -1,8 +1,8 @@
 -- How a call keeps its promise: it refuses and leaves every byte, or it writes what the definition leaves.
-use Rattle.base.{specs.Base.{ℕ, _≡_, true, false, not, List, Tables, Step, Checked, refuse, _>>_, refuseIf, concluded, refusedReply, Answers, seen, Status, FileCorruptError, Refused, Answer}, proofs.Laws.{refl, sym, _∙_, ap, and-left, and-right, by-cases, not-both}}
+use Rattle.base.{specs.Base.{ℕ, _≡_, true, false, not, List, length, Tables, Step, Checked, refuse, _>>_, refuseIf, concluded, refusedReply, Answers, seen, Status, FileCorruptError, Refused, Answer}, proofs.Laws.{eqb-true, refl, sym, _∙_, ap, and-left, and-right, by-cases, not-both}}
 use Rattle.audit.specs.Sound.{soundBytes}
 use Rattle.consistency.specs.Test.{consistent}
-use Rattle.layout.{specs.{Layout.{decode, standsForTables, Changed}, Calls.onBytes}, proofs.Calls.{no-tables, on-tables, bytes-left, state-written}}
+use Rattle.layout.{specs.{Layout.{tablesSize, decode, standsForTables, Changed}, Calls.onBytes}, proofs.Calls.{no-tables, on-tables, bytes-left, state-written}}
 use Rattle.little_endian.specs.LittleEndian.{Bytes}
 use Rattle.store.specs.Store.{whenConsistent}
 use Rattle.call_contracts.specs.Performs.{StandFor, Performs}
@@ -46,6 +46,11 @@ module _ (call : Tables → Step Tables) (bs : List ℕ) (bytes : Bytes bs) wher
               };
           tables = λ _. record { stands = c .stays stands; is = c .is };
         }
+
+-- sound bytes are as many as the tables have
+pub sound-long : (bs : List ℕ) → soundBytes bs ≡ true → length bs ≡ tablesSize
+unfolding soundBytes standsForTables
+sound-long bs e = eqb-true _ _ (and-left _ _ (and-left (standsForTables bs) _ e))
 
 -- a call that asks for consistency first
 module _ (answer : Tables → Checked (Step Tables)) (bs : List ℕ) where

@@ -1,71 +1,64 @@
-use borrow.Author.Needs.{needs}
+-- `calls::close` meets its contract: unsound bytes and an unknown handle are refused, and then the open is struck.
+use Rattle.base.{specs.Base.{_≡_, true}, proofs.Laws.{refl, sym, _∙_, arith, needs, not-true, not-false}}
+use Rattle.audit.specs.Sound.{soundBytes}
+use Rattle.call_contracts.proofs.{Performing.{performs-written, performs-refusal, performs-unsound, sound-stands, sound-long}, Answering.{closing, close-refuses, close-accepts}, Closed.{closingOf, close-none, close-found, struck-is}}
+use Rattle.layout.specs.Layout.{decode}
+use Rattle.open_table.specs.Rows.{rowSlot}
+use Rattle.store.specs.Store.{storeClose, closed}
 use Rattle.calls.proofs.close.Statement.{statement}
 use Rattle.calls.proofs.close.Tie as tie
-use Rattle.calls.proofs.close.Reads as reads
-use Rattle.calls.proofs.close.Lts as lts
-use Rattle.apply.proofs.strike_open.Reads as strike-open-reads
-use Rattle.audit.proofs.audit.Reads as audit-reads
-use Rattle.calls.proofs.done.Reads as done-reads
-use Rattle.calls.proofs.refused.Reads as refused-reads
-use Rattle.open_table.proofs.find_open.Reads as find-open-reads
-
-audit-requires : tie.Need-audit-requires
-audit-requires c κs = search needs
-
-refused-requires : tie.Need-refused-requires
-refused-requires c κs = search needs
-
-same-length : tie.Need-same-length
-same-length c = search needs
 
 returns : tie.Need-returns
-returns c = ?
+unfolding storeClose
+returns c =
+    let a = c .before .before .before .before .before .args in
+    rw (c .refused .ensures)
+    (performs-unsound (closing (a .h)) (a .b .now) (λ i. omega (arith, c .before .before .before .before .slice-known .given i))
+    (sym (c .before .before .audit .ensures) ∙ not-true _ (c .before .if1 .taken)))
 
-find-open-requires : tie.Need-find-open-requires
-find-open-requires c κs = ?
-
-enum-known-slot : tie.Need-enum-known-slot
-enum-known-slot c = search needs
-
-enum-told : tie.Need-enum-told
-enum-told c = search needs
-
-refused-requires-2 : tie.Need-refused-requires-2
-refused-requires-2 c κs = search needs
-
-same-length-2 : tie.Need-same-length-2
-same-length-2 c = search needs
+-- the bytes are sound where the audit passed
+sound : (c : tie.Else1) → soundBytes (c .before .before .before .before .args .b .now) ≡ true
+sound c = sym (c .before .audit .ensures) ∙ not-false _ (c .if1 .left)
 
 returns-2 : tie.Need-returns-2
-returns-2 c = ?
-
-strike-open-requires : tie.Need-strike-open-requires
-strike-open-requires c κs = ?
-
-done-requires : tie.Need-done-requires
-done-requires c κs = search needs
-
-same-length-3 : tie.Need-same-length-3
-same-length-3 c = search needs
+unfolding rowSlot
+returns-2 c =
+    let s = sound (c .before .before .before .before .before) in
+    let a = c .before .before .before .before .before .before .before .before .before .args in
+    let bs = a .b .now in
+    let none = close-none (decode bs) (a .h) (sym (rw (c .before .enum-told .given .1) at (c .before .before .before .find-open .ensures))) in
+    rw (c .refused2 .ensures)
+    (performs-refusal _ bs (λ i. omega (arith, c .before .before .before .before .before .before .before .before .slice-known .given i)) (sound-stands (closing (a .h)) bs s) _
+    (close-refuses bs s (a .h) _ none))
 
 returns-3 : tie.Need-returns-3
-returns-3 c = ?
+unfolding rowSlot closed
+returns-3 c =
+    let s = sound (c .before .before .before .before .before .before .before .before .before .before) in
+    let a = c .before .before .before .before .before .before .before .before .before .before .before .before .before .before .args in
+    let bs = a .b .now in
+    let found = sym (rw (c .before .before .before .before .before .before .slot .given .1) at (c .before .before .before .before .before .before .before .before .find-open .ensures)) in
+    let e = close-accepts bs s (a .h) _ (close-found (decode bs) (a .h) _ found) in
+    rw (c .done .ensures)
+    (performs-written _ bs (λ i. omega (arith, c .before .before .before .before .before .before .before .before .before .before .before .before .before .slice-known .given i)) (sound-stands (closing (a .h)) bs s) _ _
+    (λ i. omega (arith, c .before .slice-known2 .given i))
+    (rw (e, struck-is (decode bs) (a .h) _ found) (c .before .before .before .strike-open .ensures)) (rw e))
 
 pub close-spec : {M : Type 1} → statement M
 close-spec =
     tie.close
     (tie.spec
-    audit-requires
-    refused-requires
-    same-length
+    (λ c κs. search needs)
+    (λ c κs. search needs)
+    (λ c. search needs)
     returns
-    find-open-requires
-    enum-known-slot
-    enum-told
-    refused-requires-2
-    same-length-2
+    (λ c κs. sound-long _ (sound (c .before)))
+    (λ c. search needs)
+    (λ c. search needs)
+    (λ c κs. search needs)
+    (λ c. search needs)
     returns-2
-    strike-open-requires
-    done-requires
-    same-length-3
+    (λ c κs. sound-long _ (sound (c .before .before .before .before .before .before)))
+    (λ c κs. search needs)
+    (λ c. search needs)
     returns-3)

@@ -1,71 +1,74 @@
-use borrow.Author.Needs.{needs}
+-- `calls::open` meets its contract: unsound bytes and what the steps refuse are refused, and then the open is applied.
+use Rattle.base.{specs.Base.{_≡_, true}, proofs.Laws.{refl, sym, _∙_, arith, needs, not-true, not-false, and-right}}
+use Rattle.audit.specs.Sound.{soundBytes}
+use Rattle.call_contracts.proofs.{Performing.{performs-written, performs-refusal, performs-unsound, sound-stands, sound-long}, Answering.{opening, open-refuses, open-accepts}, Opened.{names-stored, applied-is}}
+use Rattle.complete.specs.Placing.{TakesFreeRow}
+use Rattle.consistency.proofs.Equivalence.{consistent-iff}
+use Rattle.layout.{specs.Layout.{decode, standsForTables}, proofs.Tables.decode-fits}
+use Rattle.little_endian.specs.LittleEndian.{Bytes}
+use Rattle.open_steps.specs.Decisions.{asAccepted, asDecision}
+use Rattle.store.specs.Store.{storeOpen, opened}
 use Rattle.calls.proofs.open.Statement.{statement}
 use Rattle.calls.proofs.open.Tie as tie
-use Rattle.calls.proofs.open.Reads as reads
-use Rattle.calls.proofs.open.Lts as lts
-use Rattle.apply.proofs.apply_open.Reads as apply-open-reads
-use Rattle.audit.proofs.audit.Reads as audit-reads
-use Rattle.calls.proofs.decide.Reads as decide-reads
-use Rattle.calls.proofs.opened.Reads as opened-reads
-use Rattle.calls.proofs.refused.Reads as refused-reads
-
-audit-requires : tie.Need-audit-requires
-audit-requires c κs = search needs
-
-refused-requires : tie.Need-refused-requires
-refused-requires c κs = search needs
-
-same-length : tie.Need-same-length
-same-length c = search needs
 
 returns : tie.Need-returns
-returns c = ?
+unfolding storeOpen
+returns c =
+    let a = c .before .before .before .before .before .before .args in
+    rw (c .refused .ensures)
+    (performs-unsound (opening (a .r) (a .path .now)) (a .b .now) (λ i. omega (arith, c .before .before .before .before .before .slice-known .given i))
+    (sym (c .before .before .audit .ensures) ∙ not-true _ (c .before .if1 .taken)))
 
-decide-requires : tie.Need-decide-requires
-decide-requires c κs = ?
-
-enum-known-decided : tie.Need-enum-known-decided
-enum-known-decided c = search needs
-
-refused-requires-2 : tie.Need-refused-requires-2
-refused-requires-2 c κs = search needs
-
-enum-known-decided-2 : tie.Need-enum-known-decided-2
-enum-known-decided-2 c = search needs
-
-apply-open-requires : tie.Need-apply-open-requires
-apply-open-requires c κs = ?
-
-opened-requires : tie.Need-opened-requires
-opened-requires c κs = search needs
-
-same-length-2 : tie.Need-same-length-2
-same-length-2 c = search needs
+-- the bytes are sound where the audit passed
+sound : (c : tie.Else1) → soundBytes (c .before .before .before .before .before .args .b .now) ≡ true
+sound c = sym (c .before .audit .ensures) ∙ not-false _ (c .if1 .left)
 
 returns-2 : tie.Need-returns-2
-returns-2 c = ?
-
-same-length-3 : tie.Need-same-length-3
-same-length-3 c = search needs
+unfolding asDecision
+returns-2 c =
+    let s = sound (c .before .before .before .before .before .before) in
+    let a = c .before .before .before .before .before .before .before .before .before .before .before .args in
+    let bs = a .b .now in
+    let e = rw (c .before .before .decided .given .1) at (c .before .before .before .before .decide .ensures .is) in
+    rw (c .refused2 .ensures)
+    (performs-refusal _ bs (λ i. omega (arith, c .before .before .before .before .before .before .before .before .before .before .slice-known .given i)) (sound-stands (opening (a .r) (a .path .now)) bs s) _
+    (open-refuses bs s (a .r) (a .path .now) _ e))
 
 returns-3 : tie.Need-returns-3
-returns-3 c = ?
+unfolding asDecision asAccepted TakesFreeRow opened soundBytes
+returns-3 c =
+    let s = sound (c .before .before .before .before .before .before .before .before .before .before) in
+    let a = c .before .before .before .before .before .before .before .before .before .before .before .before .before .before .before .args in
+    let bs = a .b .now in
+    let t = decode bs in
+    let bytes : Bytes bs = λ i. omega (arith, c .before .before .before .before .before .before .before .before .before .before .before .before .before .before .slice-known .given i) in
+    let ok = consistent-iff (t .volume) (t .opens) .0 (and-right (standsForTables bs) _ s) in
+    let decided = c .before .before .before .before .before .before .before .before .decide .ensures in
+    let d = rw (c .before .before .before .before .before .before .decided2 .given .1) at (decided .is) in
+    let row = rw (c .before .before .before .before .before .before .decided2 .given .1) at (decided .row) in
+    let e = open-accepts bs s (a .r) (a .path .now) _ d in
+    let stored = names-stored t ok (a .r) (a .path .now) _ (sym d) in
+    let is = applied-is t ok (a .r) (a .path .now) _ (sym d) (decode-fits bs bytes (sound-long bs s) .next) _ row in
+    rw (c .opened .ensures)
+    (performs-written _ bs bytes (sound-stands (opening (a .r) (a .path .now)) bs s) _ _
+    (λ i. omega (arith, c .before .slice-known2 .given i))
+    (rw (e, ← is) (c .before .before .before .apply-open .ensures .changed stored)) (rw e))
 
 pub open-spec : {M : Type 1} → statement M
 open-spec =
     tie.close
     (tie.spec
-    audit-requires
-    refused-requires
-    same-length
+    (λ c κs. search needs)
+    (λ c κs. search needs)
+    (λ c. search needs)
     returns
-    decide-requires
-    enum-known-decided
-    refused-requires-2
-    enum-known-decided-2
-    apply-open-requires
-    opened-requires
-    same-length-2
+    (λ c κs. sound-long _ (sound (c .before)))
+    (λ c. search needs)
+    (λ c κs. search needs)
+    (λ c. search needs)
+    (λ c κs. sound-long _ (sound (c .before .before .before .before .before .before)))
+    (λ c κs. search needs)
+    (λ c. search needs)
     returns-2
-    same-length-3
+    (λ c. search needs)
     returns-3)
