@@ -3,8 +3,8 @@ use Rattle.base.{specs.Base.{_≡_, true}, proofs.Laws.{refl, sym, _∙_, arith
 use Rattle.audit.specs.Sound.{soundBytes}
 use Rattle.call_contracts.proofs.{Performing.{performs-written, performs-unsound, sound-stands, sound-long}, Answering.{setting, switch-sets}}
 use Rattle.store.specs.Store.{storeSetReadOnly, volumeMarked}
-use Rattle.calls.proofs.set_read_only.Statement.{statement}
-use Rattle.calls.proofs.set_read_only.Tie as tie
+use Rattle.calls.proofs.switching.set_read_only.Statement.{statement}
+use Rattle.calls.proofs.switching.set_read_only.Tie as tie
 
 returns : tie.Need-returns
 unfolding storeSetReadOnly

@@ -1,8 +1,8 @@
 -- `calls::decide` meets its contract: the steps one after the other.
 use Rattle.base.proofs.Laws.{needs}
 use Rattle.store.specs.{Prepare.prepare, Complete.decide}
-use Rattle.calls.proofs.decide.Statement.{statement}
-use Rattle.calls.proofs.decide.Tie as tie
+use Rattle.calls.proofs.opening.decide.Statement.{statement}
+use Rattle.calls.proofs.opening.decide.Tie as tie
 
 returns : tie.Need-returns
 unfolding decide prepare

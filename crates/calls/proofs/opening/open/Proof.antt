@@ -8,8 +8,8 @@ use Rattle.layout.{specs.Layout.{decode, standsForTables}, proofs.Tables.decode
 use Rattle.little_endian.specs.LittleEndian.{Bytes}
 use Rattle.open_steps.specs.Decisions.{asAccepted, asDecision}
 use Rattle.store.specs.Store.{storeOpen, opened}
-use Rattle.calls.proofs.open.Statement.{statement}
-use Rattle.calls.proofs.open.Tie as tie
+use Rattle.calls.proofs.opening.open.Statement.{statement}
+use Rattle.calls.proofs.opening.open.Tie as tie
 
 returns : tie.Need-returns
 unfolding storeOpen

@@ -5,8 +5,8 @@ use Rattle.call_contracts.proofs.{Performing.{performs-written, performs-refusa
 use Rattle.layout.specs.Layout.{decode}
 use Rattle.open_table.specs.Rows.{rowSlot}
 use Rattle.store.specs.Store.{storeClose, closed}
-use Rattle.calls.proofs.close.Statement.{statement}
-use Rattle.calls.proofs.close.Tie as tie
+use Rattle.calls.proofs.closing.close.Statement.{statement}
+use Rattle.calls.proofs.closing.close.Tie as tie
 
 returns : tie.Need-returns
 unfolding storeClose
