@@ -1,8 +1,7 @@
 -- `apply::write_file_streams` meets its contract: the stream without a name, then the named one if the path names one.
-use Rattle.base.{specs.Base.Tables, proofs.Laws.needs}
+use Rattle.base.{specs.Base.{Tables, length}, proofs.Laws.{needs, eq-eqb, ne-eqb, empty-length}}
 use Rattle.codecs.specs.Codec.{Each}
 use Rattle.components.specs.Positions.{partOf}
-use Rattle.lookup.proofs.Walking.{name-empty, name-given}
 use Rattle.store.specs.{Complete.streamNew, Store.writeStreams}
 use Rattle.open_steps.specs.Decisions.{streamsAdded}
 use Rattle.apply.specs.Applied.{putBare}
@@ -19,7 +18,7 @@ returns c =
     let a = unnamed .before .before .before .before .before .before .before .before .args in
     let us = partOf (a .path .now) (a .f .leaf .stream) in
     let given = rw (name .part-of .ensures) at (named .before .before .if1 .taken) in
-    rw (name-given us given)
+    rw (← empty-length us, ne-eqb (length us) 0 given)
     (if-room (λ room. (room .0, room .1 .0))
     (writes-then (λ (t : Tables). putBare t (a .at .opened) (streamNew (a .at .file) (a .f .«file_type») us))
     (unnamed .write-new-stream .ensures)
@@ -33,7 +32,7 @@ returns-2 c =
     let a = unnamed .before .before .before .before .before .before .before .before .args in
     let us = partOf (a .path .now) (a .f .leaf .stream) in
     let none = rw (name .part-of .ensures) at (c .if1 .left) in
-    rw (name-empty us none) (if-room (λ room. room .0) (unnamed .write-new-stream .ensures))
+    rw (← empty-length us, eq-eqb (length us) 0 none) (if-room (λ room. room .0) (unnamed .write-new-stream .ensures))
 
 pub write-file-streams-spec : {M : Type 1} → statement M
 write-file-streams-spec =
