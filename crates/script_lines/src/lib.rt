@@ -7,6 +7,7 @@ use records::Request;
 use records::Status;
 ghost use Prim.Native.Nat.{_+_, _*_, _≤_, _<_};
 ghost use mathlib.Core.Path.{_≡_};
+ghost use mathlib.Core.Bool.{_&&_};
 ghost use lib.Dec.{leb};
 ghost use lib.ListN.{length, take, drop};
 ghost use Rattle.lists.specs.Lists.{all};
@@ -134,6 +135,13 @@ fn ascii_from(line: &[u8], from: usize) -> bool
     true
 }
 
+// Whether the fold is 0 or 1, and the path ASCII.
+fn valid_open(line: &[u8], fold: u32, at: usize) -> bool
+    ensures { λ r. ⌜ r ≡ (leb fold 1 && all isAscii (drop at (now (line .entry)))) ⌝ }
+{
+    fold <= 1 && ascii_from(line, at)
+}
+
 fn read_open(line: &[u8]) -> AskedLine
     ensures { λ r. ⌜ asCall (now (line .entry)) r ≡ openLine (drop 2 (now (line .entry))) ⌝ }
 {
@@ -158,10 +166,7 @@ fn read_open(line: &[u8]) -> AskedLine
     let FoundField::At(fold, at) = field_at(line, at) else {
         return AskedLine::Unknown;
     };
-    if 1 < fold {
-        return AskedLine::Unknown;
-    }
-    if !ascii_from(line, at) {
+    if !valid_open(line, fold, at) {
         return AskedLine::Unknown;
     }
     let r = Request {
