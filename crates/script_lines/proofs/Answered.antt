@@ -1,0 +1,31 @@
+-- A line answered by way of what the code reads, calls and prints.
+use Rattle.base.{specs.Base.{ℕ, _≤_, _≡_, List, none, some, length, leb, take, drop, Step, Answers, Answer, Request}, proofs.Laws.{sym, _∙_, ap, arith, by-cases, none≢some, length-drop, take-all}}
+use borrow.Author.Tests.{leb-true}
+use Rattle.store.specs.Calls.{Call}
+use Rattle.script_lines.specs.{Lines.{lineLimit, parseLine}, Print.{printed, unknownLine}, Script.{Answered, performed, answered}, Found.{asCall, seenOf}, declared.AskedLine.the-variants.Open}
+
+-- a line that asks something is no longer than the limit
+pub asked-fits : (line : List ℕ) (call : Call) → parseLine line ≡ some call → length line ≤ lineLimit
+unfolding parseLine
+asked-fits line call e =
+    by-cases (leb (length line) lineLimit) (λ h. leb-true (length line) lineLimit h)
+    (λ h. absurd (none≢some (rw h at e)))
+
+-- so its whole path is copied
+pub path-fits : (line : List ℕ) (r : Request) (at : ℕ) → asCall line (Open r at) ≡ parseLine line
+    → take lineLimit (drop at line) ≡ drop at line
+unfolding asCall
+path-fits line r at e =
+    let k = asked-fits line _ (sym e) in
+    let d = length-drop at line in
+    take-all lineLimit (drop at line) (omega arith)
+
+module _ {S : Type 0} (step : S → Call → Step S) (s : S) (line : List ℕ) where
+  pub answered-unknown : parseLine line ≡ none → answered step s line ≡ record { bytes = unknownLine; state = s }
+  unfolding answered performed
+  answered-unknown e = rw e
+
+  pub answered-call : (call : Call) (a : Answer) (after : S) → parseLine line ≡ some call → Answers a after (step s call)
+      → answered step s line ≡ record { bytes = printed (seenOf a); state = after }
+  unfolding answered performed
+  answered-call call a after e h = rw (e, h .reply, h .state)

@@ -1,0 +1,24 @@
+-- `script_lines::action_of` meets its contract: the digit of an action, or `-`.
+use Rattle.base.{specs.Base.{seen, actionNumber}, proofs.Laws.needs}
+use Rattle.script_lines.proofs.action_of.Statement.{statement}
+use Rattle.script_lines.specs.Print.{digit, actionByte}
+use Rattle.script_lines.proofs.action_of.Tie as tie
+
+pub action-of-spec : {M : Type 1} → statement M
+unfolding seen actionNumber actionByte digit
+action-of-spec =
+    tie.close
+    (tie.spec
+    (λ c. search needs)
+    (λ c. search needs)
+    (λ c. search needs)
+    (λ c. search needs)
+    (λ c. search needs)
+    (λ c. search needs)
+    (λ c. search needs)
+    (λ c. rw (c .before .before .before .o .given .1, c .enum-told .given .1))
+    (λ c. rw (c .before .before .before .o .given .1, c .enum-told2 .given .1))
+    (λ c. rw (c .before .before .before .o .given .1, c .enum-told3 .given .1))
+    (λ c. rw (c .before .before .before .o .given .1, c .enum-told4 .given .1))
+    (λ c. rw (c .enum-told5 .given .1))
+    (λ c. rw (c .before .o2 .given .1)))
