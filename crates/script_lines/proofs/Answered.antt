@@ -1,8 +1,8 @@
 -- A line answered by way of what the code reads, calls and prints.
-use Rattle.base.{specs.Base.{ℕ, _≤_, _≡_, List, none, some, length, leb, take, drop, Step, Answers, Answer, Request}, proofs.Laws.{sym, _∙_, ap, arith, by-cases, none≢some, length-drop, take-all}}
+use Rattle.base.{specs.Base.{ℕ, _≤_, _≡_, List, none, some, length, leb, take, drop, Step, Answers, Answer, Request}, proofs.Laws.{sym, arith, by-cases, none≢some, length-drop, take-all}}
 use borrow.Author.Tests.{leb-true}
 use Rattle.store.specs.Calls.{Call}
-use Rattle.script_lines.specs.{Lines.{lineLimit, parseLine}, Print.{printed, unknownLine}, Script.{Answered, performed, answered}, Found.{asCall, seenOf}, declared.AskedLine.the-variants.Open}
+use Rattle.script_lines.specs.{Lines.{lineLimit, parseLine}, Print.{printed, unknownLine}, Script.{performed, answered}, Found.{asCall, seenOf}, declared.AskedLine.the-variants.Open}
 
 -- a line that asks something is no longer than the limit
 pub asked-fits : (line : List ℕ) (call : Call) → parseLine line ≡ some call → length line ≤ lineLimit

@@ -1,5 +1,5 @@
 -- `script_lines::read_open` meets its contract: each field is read after the one before it.
-use Rattle.base.{specs.Base.{_≡_, some, drop}, proofs.Laws.{sym, _∙_, ap, needs, le-leb, lt-leb, not-true, not-false}}
+use Rattle.base.{specs.Base.{_≡_, some, drop}, proofs.Laws.{sym, _∙_, ap, needs, not-true, not-false}}
 use Rattle.script_lines.proofs.read_open.Statement.{statement}
 use Rattle.script_lines.specs.{Lines.{_>>=_, field, openLine}, Found.{fieldAt, asField, asCall}}
 use Rattle.script_lines.proofs.read_open.Tie as tie
@@ -119,40 +119,28 @@ returns-7 c =
 returns-8 : tie.Need-returns-8
 unfolding asCall openLine _>>=_
 returns-8 c =
-    let f7 = c .before .before in
+    let f7 = c .before .before .before in
     let f6 = f7 .before .before .before .before in
     let f5 = f6 .before .before .before .before in
     let f4 = f5 .before .before .before .before in
     let f3 = f4 .before .before .before .before in
     let f2 = f3 .before .before .before .before in
     let f1 = f2 .before .before .before .before in
-    rw (account f1, access f2, share f3, disposition f4, options f5, attributes f6, fold f7, lt-leb _ 1 (c .if1 .taken))
+    let v = sym (c .before .valid-open .ensures) ∙ not-true _ (c .if1 .taken) in
+    rw (account f1, access f2, share f3, disposition f4, options f5, attributes f6, fold f7, v)
 
 returns-9 : tie.Need-returns-9
 unfolding asCall openLine _>>=_
 returns-9 c =
-    let f7 = c .before .before .before .before in
+    let f7 = c .before .before .before in
     let f6 = f7 .before .before .before .before in
     let f5 = f6 .before .before .before .before in
     let f4 = f5 .before .before .before .before in
     let f3 = f4 .before .before .before .before in
     let f2 = f3 .before .before .before .before in
     let f1 = f2 .before .before .before .before in
-    let n = sym (c .before .ascii-from .ensures) ∙ not-true _ (c .if2 .taken) in
-    rw (account f1, access f2, share f3, disposition f4, options f5, attributes f6, fold f7, le-leb _ 1 (c .before .before .if1 .left), n)
-
-returns-10 : tie.Need-returns-10
-unfolding asCall openLine _>>=_
-returns-10 c =
-    let f7 = c .before .before .before .before in
-    let f6 = f7 .before .before .before .before in
-    let f5 = f6 .before .before .before .before in
-    let f4 = f5 .before .before .before .before in
-    let f3 = f4 .before .before .before .before in
-    let f2 = f3 .before .before .before .before in
-    let f1 = f2 .before .before .before .before in
-    let y = sym (c .before .ascii-from .ensures) ∙ not-false _ (c .if2 .left) in
-    rw (account f1, access f2, share f3, disposition f4, options f5, attributes f6, fold f7, le-leb _ 1 (c .before .before .if1 .left), y)
+    let v = sym (c .before .valid-open .ensures) ∙ not-false _ (c .if1 .left) in
+    rw (account f1, access f2, share f3, disposition f4, options f5, attributes f6, fold f7, v)
 
 pub read-open-spec : {M : Type 1} → statement M
 read-open-spec =
@@ -186,7 +174,6 @@ read-open-spec =
     (λ c. search needs)
     (λ c. search needs)
     returns-7
-    returns-8
     (λ c κs. search needs)
-    returns-9
-    returns-10)
+    returns-8
+    returns-9)
