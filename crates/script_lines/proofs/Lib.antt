@@ -4,5 +4,5 @@ pub mod Reading
 pub mod Widths
 pub mod Units
 pub mod Printing
-pub mod Answered
+pub mod Asked
 pub mod ReadBack

@@ -1,5 +1,5 @@
 -- What the code's values stand for on a line. A place is a number of bytes from the line's start.
-use Rattle.base.specs.Base.{ℕ, _≤_, _≡_, List, Option, none, some, take, drop, Answer, Seen, seen}
+use Rattle.base.specs.Base.{ℕ, _≤_, _≡_, List, Option, none, some, length, take, drop, Answer, Seen, seen}
 use Rattle.store.specs.Calls.{Call, opens, closes}
 use Rattle.script_lines.specs.{Lines.{Field, lineLimit}, declared.{FoundNumber.FoundNumber, FoundField.FoundField, AskedLine.AskedLine, PathUnits.PathUnits, Printed.Printed}}
 use Rattle.script_lines.specs.declared.FoundNumber.the-variants as N
@@ -26,6 +26,7 @@ asCall line (A.Close h) = some (closes h)
 pub record Holds (p : PathUnits) (units : List ℕ) : Type 0 where
   pub is : take (p .count) (p .units) ≡ units
   pub within : p .count ≤ lineLimit
+  pub long : length (p .units) ≡ lineLimit
 
 abbrev pub seenOf : Answer → Seen
 seenOf a = seen (record { outcome = a .outcome; granted = a .granted })
@@ -34,3 +35,4 @@ seenOf a = seen (record { outcome = a .outcome; granted = a .granted })
 pub record Prints (p : Printed) (text : List ℕ) : Type 0 where
   pub is : take (p .count) (p .bytes) ≡ text
   pub within : p .count ≤ 32
+  pub long : length (p .bytes) ≡ 32

@@ -21,12 +21,12 @@ loop-again c =
 returns : tie.Need-returns Inv-loop μ-loop
 returns c =
     let i = c .before .before .loop .inv in
-    record { is = units-all (i .1) (i .0) (ltb-false _ _ (c .if1 .left)); within = i .0 }
+    record { is = units-all (i .1) (i .0) (ltb-false _ _ (c .if1 .left)); within = i .0; long = i .1 .long }
 
 returns-2 : tie.Need-returns-2 Inv-loop μ-loop
 returns-2 c =
     let i = c .before .loop .inv in
-    record { is = units-full (i .1) (omega arith); within = i .0 }
+    record { is = units-full (i .1) (omega arith); within = i .0; long = i .1 .long }
 
 pub path-units-spec : {M : Type 1} → statement M
 path-units-spec =

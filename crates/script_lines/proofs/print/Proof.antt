@@ -43,6 +43,7 @@ returns c =
           (omega arith)
           ∙ put-reply (seenOf (h .before .args .a)) status action handle n (t .status-of .ensures) (o .action-of .ensures) (h .handle-of .ensures) (w .decimal-width .ensures);
       within = omega arith;
+      long = simp length-set l;
     }
 
 pub print-spec : {M : Type 1} → statement M
