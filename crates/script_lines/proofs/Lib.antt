@@ -1,6 +1,8 @@
 pub mod Example
+pub mod Cases
 pub mod Reading
 pub mod Widths
 pub mod Units
 pub mod Printing
-pub mod Answered
+pub mod Asked
+pub mod ReadBack

@@ -1,5 +1,5 @@
 -- What is printed, written into an array from the front.
-use Rattle.base.{specs.Base.{ℕ, suc, _+_, _-_, _≤_, _<_, _≡_, List, [], _∷_, _++_, length, getD, set, take, drop, Seen}, proofs.Laws.{refl, sym, _∙_, ap, ap₂, arith, length-set, getD-set-same}}
+use Rattle.base.{specs.Base.{ℕ, suc, _+_, _-_, _≤_, _<_, _≡_, List, [], _∷_, _++_, length, set, take, drop, Seen}, proofs.Laws.{refl, sym, _∙_, ap, ap₂, arith, length-set, getD-set-same}}
 use Prim.Native.Nat.{_/_, _%_}
 use lib.Seq.{take-suc-set, take-set-le, drop-set-lt, drop-cons, take-add}
 use mathlib.Core.List.{append-assoc}

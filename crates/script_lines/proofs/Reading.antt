@@ -1,5 +1,5 @@
 -- Reading at a place of a line: one byte more, and where the reading ends.
-use Rattle.base.{specs.Base.{ℕ, _+_, _-_, _*_, _≤_, _<_, _≡_, Bool, true, false, cond, _&&_, List, [], _∷_, Option, none, some, length, getD, drop, leb, isEmpty}, proofs.Laws.{refl, sym, _∙_, ap, arith, by-cases, not-both, and-left, and-right, none≢some, Option·some-injective, eq-eqb, ne-eqb, le-leb, lt-leb, List·getD-eq-default, drop-next, drop-of-length-le}}
+use Rattle.base.{specs.Base.{ℕ, _+_, _-_, _*_, _≤_, _<_, _≡_, true, false, List, [], _∷_, none, some, length, getD, drop, leb, isEmpty}, proofs.Laws.{_∙_, ap, arith, by-cases, and-left, none≢some, Option·some-injective, eq-eqb, ne-eqb, le-leb, lt-leb, List·getD-eq-default, drop-next, drop-of-length-le}}
 use lib.Seq.{getD-drop, drop-drop}
 use borrow.Author.Tests.{leb-true}
 use Rattle.store.specs.Calls.{closes}

@@ -1,5 +1,5 @@
 -- The bytes of a path copied as units, those of the longest line at most.
-use Rattle.base.{specs.Base.{ℕ, _+_, _≤_, _<_, _≡_, List, length, getD, set, take, drop}, proofs.Laws.{refl, sym, _∙_, ap, arith, length-set, length-drop, take-all}}
+use Rattle.base.{specs.Base.{ℕ, _+_, _≤_, _<_, _≡_, List, length, getD, set, take, drop}, proofs.Laws.{sym, _∙_, ap, arith, length-set, length-drop, take-all}}
 use lib.Seq.{take-suc, take-suc-set, getD-drop}
 use native.Mathlib.Numerals.{add-one}
 use Rattle.script_lines.specs.Lines.{lineLimit}

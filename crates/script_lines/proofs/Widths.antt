@@ -1,5 +1,5 @@
 -- How many decimal digits a number has: one for each division by ten, and one at the end.
-use Rattle.base.{specs.Base.{ℕ, zero, suc, _+_, _-_, _≤_, _<_, _≡_}, proofs.Laws.{refl, arith, ap, _∙_, by-cases}}
+use Rattle.base.{specs.Base.{ℕ, zero, suc, _≤_, _<_, _≡_}, proofs.Laws.{refl, arith, by-cases}}
 use Prim.Native.Nat.{_/_}
 use lib.Dec.{ltb}
 use borrow.Author.Tests.{lt-ltb, le-ltb}

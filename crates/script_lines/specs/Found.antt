@@ -1,7 +1,7 @@
 -- What the code's values stand for on a line. A place is a number of bytes from the line's start.
-use Rattle.base.specs.Base.{ℕ, List, Option, none, some, take, drop, Answer, Seen, seen}
+use Rattle.base.specs.Base.{ℕ, _≤_, _≡_, List, Option, none, some, length, take, drop, Answer, Seen, seen}
 use Rattle.store.specs.Calls.{Call, opens, closes}
-use Rattle.script_lines.specs.{Lines.Field, declared.{FoundNumber.FoundNumber, FoundField.FoundField, AskedLine.AskedLine, PathUnits.PathUnits, Printed.Printed}}
+use Rattle.script_lines.specs.{Lines.{Field, lineLimit}, declared.{FoundNumber.FoundNumber, FoundField.FoundField, AskedLine.AskedLine, PathUnits.PathUnits, Printed.Printed}}
 use Rattle.script_lines.specs.declared.FoundNumber.the-variants as N
 use Rattle.script_lines.specs.declared.FoundField.the-variants as F
 use Rattle.script_lines.specs.declared.AskedLine.the-variants as A
@@ -22,11 +22,17 @@ asCall line A.Unknown = none
 asCall line (A.Open r place) = some (opens r (drop place line))
 asCall line (A.Close h) = some (closes h)
 
-abbrev pub unitsOf : PathUnits → List ℕ
-unitsOf p = take (p .count) (p .units)
+-- these units, in the first places
+pub record Holds (p : PathUnits) (units : List ℕ) : Type 0 where
+  pub is : take (p .count) (p .units) ≡ units
+  pub within : p .count ≤ lineLimit
+  pub long : length (p .units) ≡ lineLimit
 
 abbrev pub seenOf : Answer → Seen
 seenOf a = seen (record { outcome = a .outcome; granted = a .granted })
 
-abbrev pub textOf : Printed → List ℕ
-textOf p = take (p .count) (p .bytes)
+-- these bytes, in the first places
+pub record Prints (p : Printed) (text : List ℕ) : Type 0 where
+  pub is : take (p .count) (p .bytes) ≡ text
+  pub within : p .count ≤ 32
+  pub long : length (p .bytes) ≡ 32

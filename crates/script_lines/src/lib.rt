@@ -11,10 +11,10 @@ ghost use mathlib.Core.Bool.{_&&_};
 ghost use lib.Dec.{leb};
 ghost use lib.ListN.{length, take, drop};
 ghost use Rattle.lists.specs.Lists.{all};
-ghost use Rattle.records.specs.Numbers.{statusNumber, seen};
-ghost use Rattle.script_lines.specs.Lines.{lineLimit, most32, isDigit, isAscii, digitsFrom, number, field, openLine, closeLine, parseLine};
+ghost use Rattle.records.specs.Numbers.{statusNumber};
+ghost use Rattle.script_lines.specs.Lines.{lineLimit, isDigit, isAscii, digitsFrom, number, field, openLine, closeLine, parseLine};
 ghost use Rattle.script_lines.specs.Print.{digit, digits, decimalWidth, actionByte, printed, unknownLine, Appended};
-ghost use Rattle.script_lines.specs.Found.{asNumber, asField, asCall, unitsOf, seenOf, textOf};
+ghost use Rattle.script_lines.specs.Found.{asNumber, asField, asCall, Holds, seenOf, Prints};
 
 // A line's bytes, its line end not counted.
 pub const LINE_LIMIT: usize = 1024;
@@ -106,6 +106,7 @@ fn number_at(line: &[u8], from: usize, most: u64) -> FoundNumber
     FoundNumber::None
 }
 
+// The number of 32 bits that stands at a place, if a space follows it.
 fn field_at(line: &[u8], from: usize) -> FoundField
     ensures { λ r. ⌜ asField (now (line .entry)) r ≡ field (drop from (now (line .entry))) ⌝ }
 {
@@ -122,6 +123,7 @@ fn field_at(line: &[u8], from: usize) -> FoundField
     FoundField::At(value as u32, end + 1)
 }
 
+// Whether all bytes from a place on are ASCII.
 fn ascii_from(line: &[u8], from: usize) -> bool
     ensures { λ r. ⌜ r ≡ all isAscii (drop from (now (line .entry))) ⌝ }
 {
@@ -142,6 +144,7 @@ fn valid_open(line: &[u8], fold: u32, at: usize) -> bool
     fold <= 1 && ascii_from(line, at)
 }
 
+// What a line asks that begins with `O `.
 fn read_open(line: &[u8]) -> AskedLine
     ensures { λ r. ⌜ asCall (now (line .entry)) r ≡ openLine (drop 2 (now (line .entry))) ⌝ }
 {
@@ -181,6 +184,7 @@ fn read_open(line: &[u8]) -> AskedLine
     AskedLine::Open(r, at)
 }
 
+// What a line asks that begins with `C `.
 fn read_close(line: &[u8]) -> AskedLine
     ensures { λ r. ⌜ asCall (now (line .entry)) r ≡ closeLine (drop 2 (now (line .entry))) ⌝ }
 {
@@ -216,7 +220,7 @@ pub fn read_line(line: &[u8]) -> AskedLine
 
 // A path's bytes as units, those of the longest line at most.
 pub fn path_units(line: &[u8], from: usize) -> PathUnits
-    ensures { λ r. ⌜ unitsOf r ≡ take lineLimit (drop from (now (line .entry))) ⌝ }
+    ensures { λ r. ⌜ Holds r (take lineLimit (drop from (now (line .entry)))) ⌝ }
 {
     let mut units = [0u16; LINE_LIMIT];
     let mut at = from;
@@ -229,6 +233,7 @@ pub fn path_units(line: &[u8], from: usize) -> PathUnits
     PathUnits { units, count }
 }
 
+// The number of a status.
 pub fn status_number(s: Status) -> u32
     ensures { λ r. ⌜ r ≡ statusNumber s ⌝ }
 {
@@ -298,6 +303,7 @@ fn digit_byte(n: u8) -> u8
     if n < 10 { 0x30 + n } else { 0x37 + n }
 }
 
+// How many decimal digits a number has. 64 bits have at most 20.
 fn decimal_width(number: u64) -> usize
     ensures { λ r. ⌜ r ≡ decimalWidth number ⌝ }
 {
@@ -326,7 +332,7 @@ fn put_digits(out: &mut [u8; 32], at: usize, base: u64, width: usize, number: u6
 
 // What is printed of an answer.
 pub fn print(a: Answer) -> Printed
-    ensures { λ r. ⌜ textOf r ≡ printed (seenOf a) ⌝ }
+    ensures { λ r. ⌜ Prints r (printed (seenOf a)) ⌝ }
 {
     let handle = handle_of(a);
     let width = decimal_width(handle);
@@ -345,7 +351,7 @@ pub fn print(a: Answer) -> Printed
 
 // What is printed of a line that asks nothing.
 pub fn print_unknown() -> Printed
-    ensures { λ r. ⌜ textOf r ≡ unknownLine ⌝ }
+    ensures { λ r. ⌜ Prints r unknownLine ⌝ }
 {
     let mut bytes = [0u8; 32];
     bytes[0] = 0x3F;

@@ -1,5 +1,5 @@
 -- `script_lines::field_at` meets its contract.
-use Rattle.base.{specs.Base.{_≡_, none, some, drop}, proofs.Laws.{sym, _∙_, ap, arith, needs}}
+use Rattle.base.{specs.Base.{_≡_, some, drop}, proofs.Laws.{sym, _∙_, ap, arith, needs}}
 use Rattle.script_lines.proofs.{Reading.{field-none, field-end, field-other, field-is, field-fits}, field_at.Statement.statement}
 use Rattle.script_lines.specs.{Lines.{most32, number}, Found.{fieldAt, asNumber, asField}}
 use Rattle.script_lines.proofs.field_at.Tie as tie

@@ -1,5 +1,5 @@
 -- `script_lines::fits` meets its contract: the test is the definition's, put so that nothing wraps.
-use Rattle.base.{specs.Base.{ℕ, _+_, _-_, _*_, _≤_, _<_, _≡_, leb}, proofs.Laws.{sym, _∙_, arith, by-cases, le-leb, lt-leb}}
+use Rattle.base.{specs.Base.{ℕ, _+_, _-_, _*_, _≤_, _≡_, leb}, proofs.Laws.{sym, _∙_, arith, by-cases, le-leb, lt-leb}}
 use borrow.Author.Tests.{leb-true, leb-false}
 use Prim.Native.Nat.{_/_}
 use Rattle.script_lines.proofs.fits.Statement.{statement}

@@ -1,5 +1,5 @@
 -- `script_lines::path_units` meets its contract: a turn of the loop copies one byte more.
-use Rattle.base.{specs.Base.{_-_, _+_, _≤_, _≡_}, proofs.Laws.{refl, arith, ltb-true, ltb-false}}
+use Rattle.base.{specs.Base.{_-_, _≤_}, proofs.Laws.{refl, arith, ltb-true, ltb-false}}
 use Rattle.script_lines.proofs.{Units.{PathCopied, units-next, units-full, units-all}, path_units.Statement.statement}
 use Rattle.script_lines.specs.Lines.{lineLimit}
 use Rattle.script_lines.proofs.path_units.Tie as tie
@@ -19,10 +19,14 @@ loop-again c =
     (omega arith, units-next (l .loop .inv .1) (omega arith) (ltb-true _ _ (c .before .if1 .taken)))
 
 returns : tie.Need-returns Inv-loop μ-loop
-returns c = units-all (c .before .before .loop .inv .1) (c .before .before .loop .inv .0) (ltb-false _ _ (c .if1 .left))
+returns c =
+    let i = c .before .before .loop .inv in
+    record { is = units-all (i .1) (i .0) (ltb-false _ _ (c .if1 .left)); within = i .0; long = i .1 .long }
 
 returns-2 : tie.Need-returns-2 Inv-loop μ-loop
-returns-2 c = units-full (c .before .loop .inv .1) (omega arith)
+returns-2 c =
+    let i = c .before .loop .inv in
+    record { is = units-full (i .1) (omega arith); within = i .0; long = i .1 .long }
 
 pub path-units-spec : {M : Type 1} → statement M
 path-units-spec =

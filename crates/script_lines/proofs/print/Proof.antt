@@ -1,5 +1,5 @@
 -- `script_lines::print` meets its contract: each part is put after those before it.
-use Rattle.base.{specs.Base.{ℕ, _+_, _≤_, _≡_, _++_, List, [], _∷_, length, set, take}, proofs.Laws.{sym, _∙_, ap, arith, needs, length-set}}
+use Rattle.base.{specs.Base.{ℕ, _+_, _≤_, _≡_, _++_, List, [], _∷_, length, set, take}, proofs.Laws.{_∙_, ap, arith, needs, length-set}}
 use Rattle.script_lines.proofs.{Widths.decimal-bound, Printing.{put-byte, put-action, put-reply}, print.Statement.statement}
 use Rattle.script_lines.specs.{Lines.space, Print.{digits, lineEnd}, Found.seenOf}
 use Rattle.script_lines.proofs.print.Tie as tie
@@ -33,13 +33,18 @@ returns c =
     let action = o .action-of .result in
     let handle = h .handle-of .result in
     let text = digits 16 8 status ++ (space ∷ action ∷ space ∷ []) in
-    ap (λ (m : ℕ). take m (set b (11 + n) lineEnd)) (let z : 12 + n ≡ 11 + n + 1 = omega arith in z)
-    ∙ put-byte b (text ++ digits 10 n handle) (11 + n) lineEnd
-    (c .put-digits2 .ensures .is
-    ∙ ap (λ (x : List ℕ). x ++ digits 10 n handle)
-    (put-action (p .put-digits .last .0) (digits 16 8 status) action (p .put-digits .ensures .is) (p .put-digits .ensures .kept)))
-    (omega arith)
-    ∙ put-reply (seenOf (h .before .args .a)) status action handle n (t .status-of .ensures) (o .action-of .ensures) (h .handle-of .ensures) (w .decimal-width .ensures)
+    record {
+      is =
+          ap (λ (m : ℕ). take m (set b (11 + n) lineEnd)) (let z : 12 + n ≡ 11 + n + 1 = omega arith in z)
+          ∙ put-byte b (text ++ digits 10 n handle) (11 + n) lineEnd
+          (c .put-digits2 .ensures .is
+          ∙ ap (λ (x : List ℕ). x ++ digits 10 n handle)
+          (put-action (p .put-digits .last .0) (digits 16 8 status) action (p .put-digits .ensures .is) (p .put-digits .ensures .kept)))
+          (omega arith)
+          ∙ put-reply (seenOf (h .before .args .a)) status action handle n (t .status-of .ensures) (o .action-of .ensures) (h .handle-of .ensures) (w .decimal-width .ensures);
+      within = omega arith;
+      long = simp length-set l;
+    }
 
 pub print-spec : {M : Type 1} → statement M
 print-spec =

@@ -1,5 +1,5 @@
 -- `script_lines::put_digits` meets its contract: a turn of the loop writes one digit more, before the others.
-use Rattle.base.{specs.Base.{_-_, _+_, _<_, _≡_}, proofs.Laws.{refl, arith, needs}}
+use Rattle.base.{specs.Base.{_<_}, proofs.Laws.{arith, needs}}
 use Prim.Native.Nat.{_%_}
 use native.Mathlib.Nat.{mod-lt}
 use Rattle.script_lines.proofs.{Printing.{Written, write-none, write-next, write-all}, put_digits.Statement.statement}

@@ -1,5 +1,5 @@
 -- `script_lines::read_line` meets its contract.
-use Rattle.base.proofs.Laws.{sym, _∙_, arith, needs}
+use Rattle.base.proofs.Laws.{sym, _∙_, needs}
 use Rattle.script_lines.proofs.{Reading.{line-long, line-short, line-unspaced, line-command, command-open, command-close, command-other}, read_line.Statement.statement}
 use Rattle.script_lines.specs.Found.{asCall}
 use Rattle.script_lines.proofs.read_line.Tie as tie
