@@ -1,6 +1,6 @@
 // The script's input and output: lines are cut from standard input, whatever its length, and each answer is written before
-// the next line is read. What a line asks and what is printed is decided in `script_lines` and `script_answers`. A line too
-// long is kept up to one byte over the limit, which is enough to be none.
+// the next line is read. What a line asks and what is printed is decided in `script_lines` and `script_answers`. Of a line
+// too long as much is kept as its buffer holds, which is enough to be none.
 use layout::TABLES_SIZE;
 use libc::STDIN_FILENO;
 use libc::STDOUT_FILENO;
@@ -22,9 +22,8 @@ use records_links::write_link;
 use records_opens::write_open;
 use records_streams::write_stream;
 use script_answers::answer_line;
-use script_lines::LINE_LIMIT;
 ghost use mathlib.Core.Path.{_≡_};
-ghost use Prim.Native.Nat.{_≤_};
+ghost use Prim.Native.Nat.{_≤_, _<_};
 ghost use lib.ListN.{length};
 ghost use Rattle.layout.specs.Layout.{tablesSize};
 
@@ -109,20 +108,26 @@ fn take_bytes(tables: &mut [u8], line: &mut [u8], begun: usize, input: &[u8]) ->
     n
 }
 
+// How many turns are left after one that read `count` bytes: none where the input has ended. Nothing says that it ever ends,
+// so that a bound stands in for it.
+fn turns_after(left: u64, count: usize) -> u64
+    requires { ⌜ 0 < left ⌝ }
+    ensures { λ r. ⌜ r < left ⌝ }
+{
+    if count == 0 { 0 } else { left - 1 }
+}
+
 // The input part by part, to its end. The last line may lack its line end.
 fn answer_input(tables: &mut [u8]) {
-    let mut line = [0u8; LINE_LIMIT + 1];
+    let mut line = io::buffer();
     let mut n = 0;
     let mut left: u64 = 0xFFFF_FFFF_FFFF_FFFF;
     while 0 < left {
-        left -= 1;
         let mut input = io::buffer();
         let got = libc::read(STDIN_FILENO, &mut input);
         let count = io::count(got, &input);
-        if count == 0 {
-            left = 0;
-        }
         n = take_bytes(tables, &mut line, n, &input[..count]);
+        left = turns_after(left, count);
     }
     if 0 < n {
         answer(tables, &line[..n]);

@@ -5,10 +5,10 @@ use Rattle.script_io.proofs.take_byte.Statement.{statement}
 use Rattle.script_io.proofs.take_byte.Tie as tie
 
 slice-aggregate-answer : tie.Need-slice-aggregate-answer
-slice-aggregate-answer c = ?
+slice-aggregate-answer c = sym (length-take-le _ (c .before .before .before .before .before .args .line .now) (omega arith))
 
 returns-2 : tie.Need-returns-2
-returns-2 c = ?
+returns-2 c = let a = c .before .before .before .before .args in omega (arith, length-set (a .line .now) (a .n) (a .byte))
 
 pub take-byte-spec : {M : Type 1} → statement M
 take-byte-spec =

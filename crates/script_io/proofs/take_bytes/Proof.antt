@@ -22,7 +22,7 @@ take-bytes-spec =
     (λ c κs. search needs)
     (λ c. search needs)
     (λ c. search needs)
-    (λ c. ?)
+    (λ c. (c .before .before .before .before .take-byte .ensures, omega arith, omega arith))
     (λ c. search needs)
     (λ c. search needs)
     (λ c. search needs))
