@@ -1,9 +1,7 @@
 -- `script_answers::answer_line` meets its contract, by what the line asks.
-use Rattle.base.proofs.Laws.{sym, arith, needs}
+use Rattle.base.proofs.Laws.{arith, needs}
 use lib.ListN.{length-take}
-use Rattle.call_contracts.proofs.Sequences.{open-made, close-made}
-use Rattle.script_lines.{specs.Found.asCall, proofs.Asked.path-fits}
-use Rattle.script_answers.proofs.{Lines.{line-unknown, line-call}, answer_line.Statement.statement}
+use Rattle.script_answers.proofs.{Lines.{line-unknown, line-open, line-close}, answer_line.Statement.statement}
 use Rattle.script_answers.proofs.answer_line.Tie as tie
 
 -- the path's units lie within their array
@@ -17,32 +15,29 @@ aggregate c =
     omega (arith, length-take (p .count) (p .units))
 
 returns : tie.Need-returns
-unfolding asCall
 returns c =
     let a = c .before .before .before .before .before .before .args in
     line-unknown (a .line .now) _ (a .b .now)
-    (sym (rw (c .before .enum-told .given .1) at (c .before .before .before .read-line .ensures)))
+    (c .before .before .before .read-line .ensures) (c .before .enum-told .given .1)
     (c .print-unknown .ensures)
 
 returns-2 : tie.Need-returns-2
-unfolding asCall
 returns-2 c =
     let q = c .before .before .before .before .before .before .before .before .before in
     let a = q .before .before .before .before .before .args in
-    let read = rw (q .asked .given .1) at (q .before .before .read-line .ensures) in
-    let path = c .before .before .before .before .before .before .before .path-units .ensures in
-    line-call (a .line .now) _ (a .b .now) _ _ _ (sym read)
-    (open-made _ _ (rw (path .is, path-fits (a .line .now) _ _ read) at (c .before .before .before .«open» .ensures)))
+    line-open (a .line .now) _ (a .b .now) _ _
+    (q .before .before .read-line .ensures) (q .asked .given .1)
+    (c .before .before .before .before .before .before .before .path-units .ensures .is)
+    (c .before .before .before .«open» .ensures)
     (c .print .ensures)
 
 returns-3 : tie.Need-returns-3
-unfolding asCall
 returns-3 c =
     let q = c .before .before .before .before .before .before in
     let a = q .before .before .before .before .before .args in
-    line-call (a .line .now) _ (a .b .now) _ _ _
-    (sym (rw (q .asked2 .given .1) at (q .before .before .read-line .ensures)))
-    (close-made _ (c .before .before .before .close .ensures))
+    line-close (a .line .now) _ (a .b .now) _ _
+    (q .before .before .read-line .ensures) (q .asked2 .given .1)
+    (c .before .before .before .close .ensures)
     (c .print2 .ensures)
 
 pub answer-line-spec : {M : Type 1} → statement M
