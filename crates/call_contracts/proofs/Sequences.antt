@@ -1,11 +1,11 @@
 -- Every sequence of calls on lent bytes (specs/Sequences.antt has the statement): the tables that the bytes stand for go
 -- through the calls as in the store's theorem.
-use Rattle.base.{specs.Base.{ℕ, _<_, _≡_, Bool, true, List, _∷_, map, length, eqb, Seen, seen, statusNumber, Answers, Answer, Tables, Step, Status, FileCorruptError, InvalidParameter, Done, refusedReply, Handle, Request}, proofs.Laws.{refl, _∙_, ap, ap₂, arith, eqb-true, eqb-false, by-cases}}
+use Rattle.base.{specs.Base.{ℕ, _<_, _≡_, Bool, true, List, _∷_, map, length, eqb, Seen, seen, statusNumber, Answers, Answer, Tables, Step, Status, FileCorruptError, InvalidParameter, Done, refusedReply, Handle, Request}, proofs.Laws.{refl, sym, _∙_, ap, ap₂, arith, eqb-true, eqb-false, by-cases}}
 use Rattle.consistency.specs.Relations.{validMasks}
 use Rattle.format.{specs.{Format.format, Bytes.formatBytes}, proofs.{Bytes.{other-length, invalid-masks, formatted}, Decoded.{same-reply, decoded-tables, success-stands}}}
 use Rattle.layout.{specs.Layout.{tablesSize, decode, standsForTables}, proofs.Calls.on-tables}
 use Rattle.reply_numbers.specs.Numbers.{answerSeen}
-use Rattle.store.{specs.{Store.{storeOpen, storeClose, storeSetReadOnly}, Calls.{Call, opens, closes, setsReadOnly, Run, run, storeStep}}, proofs.Sequences.Theorem.every-sequence}
+use Rattle.store.{specs.{Store.{storeOpen, storeClose, storeSetReadOnly}, Model.{Model, modelFormat}, Calls.{Call, opens, closes, setsReadOnly, Run, run, storeStep, modelStep}, Sequences.Agree}, proofs.Sequences.{Theorem.every-sequence, Views.Related}}
 use Rattle.call_contracts.specs.{Performs.{StandFor, Performs}, Sequences.{Made, noCall, nextCall, AgreeInBytes, EverySequenceOfCalls}}
 
 -- what each of the three calls promises is what a sequence asks of it
@@ -47,17 +47,16 @@ follows (nextCall {c = c} p rest) s =
       bytesStandFor = later .bytesStandFor;
     }
 
-module _ (bytes masks : List ℕ) (readOnly : Bool) (a : Answer) (left : List ℕ)
-    (answers : Answers a left (formatBytes bytes masks readOnly)) (done : a .outcome ≡ Done) where
+-- a format that a caller sees succeed
+module _ (bytes masks : List ℕ) (readOnly : Bool) (success : seen (formatBytes bytes masks readOnly .reply) .status ≡ 0) where
   -- no refusal is seen as success, whose number is 0
   not-refused : (s : Status) → 0 < statusNumber s → formatBytes bytes masks readOnly .reply ≡ refusedReply s → ⊥
   unfolding seen
   not-refused s above q =
-      let e : answerSeen a .status ≡ statusNumber s = ap (λ (x : Seen). x .status) (answers .reply ∙ ap seen q) in
-      let z : 0 ≡ statusNumber s = rw done at e in
+      let z : statusNumber s ≡ 0 = rw q at success in
       omega arith
 
-  right-length : length bytes ≡ tablesSize
+  pub right-length : length bytes ≡ tablesSize
   unfolding statusNumber
   right-length =
       by-cases (eqb (length bytes) tablesSize) (λ e. eqb-true (length bytes) tablesSize e)
@@ -66,7 +65,7 @@ module _ (bytes masks : List ℕ) (readOnly : Bool) (a : Answer) (left : List �
       (not-refused FileCorruptError (omega arith)
       (ap (λ (s : Step (List ℕ)). s .reply) (other-length bytes masks readOnly (eqb-false (length bytes) tablesSize e)))))
 
-  valid : validMasks masks ≡ true
+  pub valid : validMasks masks ≡ true
   unfolding statusNumber
   valid =
       by-cases (validMasks masks) (λ e. e)
@@ -76,21 +75,42 @@ module _ (bytes masks : List ℕ) (readOnly : Bool) (a : Answer) (left : List �
       (ap (λ (s : Step (List ℕ)). s .reply) (invalid-masks bytes masks readOnly right-length e))))
 
   -- what format left stands for what it leaves of the tables
-  format-left : StandFor left (format (decode bytes) masks readOnly .state)
+  pub format-left : StandFor (formatBytes bytes masks readOnly .state) (format (decode bytes) masks readOnly .state)
   format-left =
-      rw (answers .state)
-      (record {
+      record {
         stands = success-stands bytes masks readOnly right-length valid;
         is = decoded-tables bytes masks readOnly right-length;
-      })
+      }
 
   format-done : format (decode bytes) masks readOnly .reply .outcome ≡ Done
   format-done = rw (← same-reply bytes masks readOnly right-length, formatted bytes masks readOnly right-length valid)
 
+  -- every sequence of calls on the tables that it leaves
+  pub agree-from : (m : Model) (calls : List Call)
+      → Agree (run storeStep (format (decode bytes) masks readOnly .state) calls) (run modelStep (modelFormat m masks readOnly .state) calls)
+  agree-from m calls = every-sequence (decode bytes) m masks readOnly format-done calls
+
+-- tables and model that agree are related
+pub agree-related : {s : Run Tables} {r : Run Model} → Agree s r → Related (s .state) (r .state)
+agree-related a =
+    record {
+      consistentTables = a .tablesConsistent;
+      opensAreEntries = a .opensAreEntries;
+      sameNamespace = a .sameNamespace;
+      nextHandle = a .nextHandle;
+    }
+
+-- an answer that is done is seen as success
+done-success : (a : Answer) → a .outcome ≡ Done → answerSeen a .status ≡ 0
+unfolding seen
+done-success a e = rw e
+
 pub every-sequence-of-calls : EverySequenceOfCalls
 every-sequence-of-calls bytes m masks readOnly a left formats done calls answers after made =
-    let f = format-left bytes masks readOnly a left formats done in
-    let agree = every-sequence (decode bytes) m masks readOnly (format-done bytes masks readOnly a left formats done) calls in
+    let success : seen (formatBytes bytes masks readOnly .reply) .status ≡ 0 =
+    ap (λ (x : Seen). x .status) (sym (formats .reply)) ∙ done-success a done in
+    let f = rw (← (formats .state)) at (format-left bytes masks readOnly success) in
+    let agree = agree-from bytes masks readOnly success m calls in
     let ran = rw (f .is) at (follows made (f .stands)) in
     record {
       sameAnswers = ran .sameAnswers ∙ ap (map seen) (agree .sameReplies);

@@ -1,3 +1,4 @@
 -- The C interface.
 pub mod Interface
 pub mod Returns
+pub mod Sequences

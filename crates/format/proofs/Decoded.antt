@@ -63,7 +63,7 @@ module _ (bs masks : List ℕ) (readOnly : Bool) (long : length bs ≡ tablesSiz
   unfolding format checkedMasks concluded refuseIf _>>_
   tables-invalid v = rw (decoded-lengths bs, v)
 
-  tables-formatted : validMasks masks ≡ true → format (decode bs) masks readOnly ≡ done (freshTables masks readOnly)
+  pub tables-formatted : validMasks masks ≡ true → format (decode bs) masks readOnly ≡ done (freshTables masks readOnly)
   unfolding format checkedMasks concluded refuseIf _>>_
   tables-formatted v = rw (decoded-lengths bs, v)
 

@@ -1,7 +1,7 @@
 -- Every script on lent bytes (specs/Scripts.antt has the statement): the tables that the bytes stand for go through the
 -- lines as the model does.
 use Rattle.base.{specs.Base.{ℕ, _≡_, true, List, [], _∷_, _++_, Option, none, some, seen, Reply, Tables}, proofs.Laws.{refl, _∙_, ap, ap₂}}
-use Rattle.call_contracts.{specs.Sequences.noCall, proofs.Sequences.every-sequence-of-calls}
+use Rattle.call_contracts.{specs.Sequences.noCall, proofs.Sequences.{agree-related, every-sequence-of-calls}
 use Rattle.format.specs.Format.{format}
 use Rattle.layout.{specs.Layout.{decode, standsForTables}, proofs.Calls.on-tables}
 use Rattle.script_lines.specs.{Lines.parseLine, Print.printed, Script.{Answered, performed, answered, script}}
@@ -51,12 +51,4 @@ pub every-script : EveryScript
 unfolding run
 every-script bytes m masks readOnly a left formats done lines text after answers =
     let none = every-sequence-of-calls bytes m masks readOnly a left formats done [] [] left noCall in
-    let fresh = none .agree in
-    let related : Related (format (decode bytes) masks readOnly .state) (modelFormat m masks readOnly .state) =
-    record {
-      consistentTables = fresh .tablesConsistent;
-      opensAreEntries = fresh .opensAreEntries;
-      sameNamespace = fresh .sameNamespace;
-      nextHandle = fresh .nextHandle;
-    } in
-    rw (none .bytesStandFor .is) at (script-on-tables answers (none .bytesStandFor .stands)) ∙ script-alike related lines
+    rw (none .bytesStandFor .is) at (script-on-tables answers (none .bytesStandFor .stands)) ∙ script-alike (agree-related (none .agree)) lines
