@@ -328,7 +328,7 @@ static void bytes_with_a(uint8_t *bytes)
     bytes[18014] = 1;
     bytes[18080] = 1;
     bytes[18084] = 1;
-    bytes[18086] = 1;
+    bytes[18088] = 1;
     bytes[38922] = 1;
     bytes[38930] = 1;
     bytes[38932] = 1;
