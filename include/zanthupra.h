@@ -19,7 +19,7 @@
  * - Any numbers and any bytes get their answer: there is no argument to keep away from it.
  * - A refusal leaves every byte of the tables as it was.
  * - Before all else it refuses tables of another length and, except for zan_format, tables that contradict themselves:
- *   ZAN_STATUS_FILE_CORRUPT_ERROR.
+ *   ZAN_STATUS_FILE_CORRUPT_ERROR (zan_audit answers 0).
  *
  * docs/INTEGRATION.md says what a host has to do, docs/LAYOUT.md what the bytes of the tables are.
  */
@@ -183,9 +183,7 @@ extern "C" {
 #define ZAN_FILE_ATTRIBUTE_COMPRESSED 0x00000800u
 #define ZAN_FILE_ATTRIBUTE_ENCRYPTED 0x00004000u
 
-/*
- * The calls. The result is a status, zan_audit's 1 or 0.
- */
+/* The calls. The result is a status; that of zan_audit is 1 or 0. */
 
 /*
  * Makes fresh tables of whatever bytes are there: a root, no file, no open, handles from 1. The masks are the root's, for
@@ -198,8 +196,9 @@ uint32_t zan_format(uint8_t *tables, size_t tables_len, const uint8_t *masks, si
 
 /*
  * Opens, and makes or replaces where the disposition says so. The path is UTF-16 units of 2 bytes, least significant first,
- * without an end mark; path_len counts bytes, and an odd one is OBJECT_NAME_INVALID. Backslashes separate names, a colon
- * leads to a stream's name, the empty path is the root. fold: 0 compares names exactly, all else without the case of a to z.
+ * without an end mark; path_len counts bytes, and an odd one is OBJECT_NAME_INVALID. A path that is too long takes no more
+ * time than one of 256 units. Backslashes separate names, a colon leads to a stream's name, the empty path is the root.
+ * fold: 0 compares names exactly, all else without the case of a to z.
  * Success writes the create action, the access granted and the handle, never 0 and never issued before since the format.
  * A refusal writes ZAN_NO_ACTION, 0 and 0.
  */

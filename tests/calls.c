@@ -115,8 +115,10 @@ static uint64_t get(const uint8_t *bytes, size_t width)
 }
 
 /* Places in the tables (docs/LAYOUT.md). */
-enum { MARK_AT = 0, NEXT_AT = 2, FILES_AT = 10, LINKS_AT = 4874, STREAMS_AT = 17930, OPENS_AT = 38922 };
-enum { FILE_BYTES = 38, LINK_BYTES = 68, STREAM_BYTES = 82, OPEN_BYTES = 20, COUNTS_IN = 68 };
+enum {
+    MARK_AT = 0, NEXT_AT = 2, FILES_AT = 10, LINKS_AT = 4874, STREAMS_AT = 17930, OPENS_AT = 38922,
+    FILE_BYTES = 38, STREAM_BYTES = 82, OPEN_BYTES = 20, COUNTS_IN = 68
+};
 
 /* The tables of one volume, and the bytes around them. */
 struct volume {
