@@ -4,8 +4,9 @@ use Rattle.base.{specs.Base.{ℕ, _<_, _≡_, Bool, true, List, _∷_, map, len
 use Rattle.consistency.specs.Relations.{validMasks}
 use Rattle.format.{specs.{Format.format, Bytes.formatBytes}, proofs.{Bytes.{other-length, invalid-masks, formatted}, Decoded.{same-reply, decoded-tables, success-stands}}}
 use Rattle.layout.{specs.Layout.{tablesSize, decode, standsForTables}, proofs.Calls.on-tables}
+use Rattle.reply_numbers.specs.Numbers.{answerSeen}
 use Rattle.store.{specs.{Store.{storeOpen, storeClose, storeSetReadOnly}, Calls.{Call, opens, closes, setsReadOnly, Run, run, storeStep}}, proofs.Sequences.Theorem.every-sequence}
-use Rattle.call_contracts.specs.{Performs.{StandFor, Performs}, Sequences.{Made, noCall, nextCall, answerSeen, AgreeInBytes, EverySequenceOfCalls}}
+use Rattle.call_contracts.specs.{Performs.{StandFor, Performs}, Sequences.{Made, noCall, nextCall, AgreeInBytes, EverySequenceOfCalls}}
 
 -- what each of the three calls promises is what a sequence asks of it
 module _ {a : Answer} {before after : List ℕ} where

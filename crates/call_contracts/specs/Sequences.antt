@@ -1,7 +1,8 @@
 -- Demand 3 of the calls on lent bytes: the statement about every sequence of calls from a format that succeeded.
-use Rattle.base.specs.Base.{ℕ, _≡_, Bool, List, [], _∷_, map, Seen, seen, Answers, Answer, Tables, Done}
+use Rattle.base.specs.Base.{ℕ, _≡_, Bool, List, [], _∷_, map, seen, Answers, Answer, Tables, Done}
 use Rattle.format.specs.{Format.format, Bytes.formatBytes}
 use Rattle.layout.specs.Layout.{decode}
+use Rattle.reply_numbers.specs.Numbers.{answerSeen}
 use Rattle.store.specs.{Model.{Model, modelFormat}, Calls.{Call, Run, run, storeStep, modelStep}, Sequences.Agree}
 use Rattle.call_contracts.specs.Performs.{StandFor, Performs}
 
@@ -12,10 +13,6 @@ pub data Made : List ℕ → List Call → List Answer → List ℕ → Type 0 w
   nextCall : {before between after : List ℕ} {c : Call} {calls : List Call} {a : Answer} {answers : List Answer}
       → Performs a before between (λ t. storeStep t c) → Made between calls answers after
       → Made before (c ∷ calls) (a ∷ answers) after
-
--- what a caller sees of an answer
-abbrev pub answerSeen : Answer → Seen
-answerSeen a = seen (record { outcome = a .outcome; granted = a .granted })
 
 -- the answers are the model's replies, and the bytes that are left stand for the tables that demand 3 speaks of
 pub record AgreeInBytes (answers : List Answer) (after : List ℕ) (store : Run Tables) (model : Run Model) : Type 0 where

@@ -1,5 +1,5 @@
 -- What the code's values stand for on a line. A place is a number of bytes from the line's start.
-use Rattle.base.specs.Base.{ℕ, _≤_, _≡_, List, Option, none, some, length, take, drop, Answer, Seen, seen}
+use Rattle.base.specs.Base.{ℕ, _≤_, _≡_, List, Option, none, some, length, take, drop}
 use Rattle.store.specs.Calls.{Call, opens, closes}
 use Rattle.script_lines.specs.{Lines.{Field, lineLimit}, declared.{FoundNumber.FoundNumber, FoundField.FoundField, AskedLine.AskedLine, PathUnits.PathUnits, Printed.Printed}}
 use Rattle.script_lines.specs.declared.FoundNumber.the-variants as N
@@ -27,9 +27,6 @@ pub record Holds (p : PathUnits) (units : List ℕ) : Type 0 where
   pub is : take (p .count) (p .units) ≡ units
   pub within : p .count ≤ lineLimit
   pub long : length (p .units) ≡ lineLimit
-
-abbrev pub seenOf : Answer → Seen
-seenOf a = seen (record { outcome = a .outcome; granted = a .granted })
 
 -- these bytes, in the first places
 pub record Prints (p : Printed) (text : List ℕ) : Type 0 where

@@ -4,17 +4,18 @@ use records::CreateAction;
 use records::Handle;
 use records::Outcome;
 use records::Request;
-use records::Status;
+use reply_numbers::handle_of;
+use reply_numbers::status_of;
 ghost use Prim.Native.Nat.{_+_, _*_, _≤_, _<_};
 ghost use mathlib.Core.Path.{_≡_};
 ghost use mathlib.Core.Bool.{_&&_};
 ghost use lib.Dec.{leb};
 ghost use lib.ListN.{length, take, drop};
 ghost use Rattle.lists.specs.Lists.{all};
-ghost use Rattle.records.specs.Numbers.{statusNumber};
 ghost use Rattle.script_lines.specs.Lines.{lineLimit, isDigit, isAscii, digitsFrom, number, field, openLine, closeLine, parseLine};
 ghost use Rattle.script_lines.specs.Print.{digit, digits, decimalWidth, actionByte, printed, unknownLine, Appended};
-ghost use Rattle.script_lines.specs.Found.{asNumber, asField, asCall, Holds, seenOf, Prints};
+ghost use Rattle.reply_numbers.specs.Numbers.{answerSeen};
+ghost use Rattle.script_lines.specs.Found.{asNumber, asField, asCall, Holds, Prints};
 
 // A line's bytes, its line end not counted.
 pub const LINE_LIMIT: usize = 1024;
@@ -233,43 +234,9 @@ pub fn path_units(line: &[u8], from: usize) -> PathUnits
     PathUnits { units, count }
 }
 
-// The number of a status.
-pub fn status_number(s: Status) -> u32
-    ensures { λ r. ⌜ r ≡ statusNumber s ⌝ }
-{
-    match s {
-        Status::FileCorruptError => 0xC000_0102,
-        Status::InvalidParameter => 0xC000_000D,
-        Status::AccessDenied => 0xC000_0022,
-        Status::ObjectNameInvalid => 0xC000_0033,
-        Status::MediaWriteProtected => 0xC000_00A2,
-        Status::ObjectPathNotFound => 0xC000_003A,
-        Status::ObjectNameNotFound => 0xC000_0034,
-        Status::ObjectNameCollision => 0xC000_0035,
-        Status::FileIsADirectory => 0xC000_00BA,
-        Status::NotADirectory => 0xC000_0103,
-        Status::SharingViolation => 0xC000_0043,
-        Status::DiskFull => 0xC000_007F,
-        Status::TooManyOpenedFiles => 0xC000_011F,
-        Status::InsufficientResources => 0xC000_009A,
-        Status::InvalidHandle => 0xC000_0008,
-    }
-}
-
-// The parts of a reply that are printed.
-fn status_of(a: Answer) -> u32
-    ensures { λ r. ⌜ r ≡ seenOf a .status ⌝ }
-{
-    let o = a.outcome;
-    match o {
-        Outcome::Success(_a, _h) => 0,
-        Outcome::Done => 0,
-        Outcome::Refused(s) => status_number(s),
-    }
-}
-
-fn action_of(a: Answer) -> u8
-    ensures { λ r. ⌜ r ≡ actionByte (seenOf a .action) ⌝ }
+// An action's digit, or `-`.
+fn action_byte(a: Answer) -> u8
+    ensures { λ r. ⌜ r ≡ actionByte (answerSeen a .action) ⌝ }
 {
     let o = a.outcome;
     match o {
@@ -281,17 +248,6 @@ fn action_of(a: Answer) -> u8
         },
         Outcome::Done => 0x2D,
         Outcome::Refused(_s) => 0x2D,
-    }
-}
-
-fn handle_of(a: Answer) -> u64
-    ensures { λ r. ⌜ r ≡ seenOf a .handle ⌝ }
-{
-    let o = a.outcome;
-    match o {
-        Outcome::Success(_a, h) => h.0,
-        Outcome::Done => 0,
-        Outcome::Refused(_s) => 0,
     }
 }
 
@@ -332,14 +288,14 @@ fn put_digits(out: &mut [u8; 32], at: usize, base: u64, width: usize, number: u6
 
 // What is printed of an answer.
 pub fn print(a: Answer) -> Printed
-    ensures { λ r. ⌜ Prints r (printed (seenOf a)) ⌝ }
+    ensures { λ r. ⌜ Prints r (printed (answerSeen a)) ⌝ }
 {
     let handle = handle_of(a);
     let width = decimal_width(handle);
     let mut bytes = [0u8; 32];
     put_digits(&mut bytes, 0, 16, 8, status_of(a) as u64);
     bytes[8] = SPACE;
-    bytes[9] = action_of(a);
+    bytes[9] = action_byte(a);
     bytes[10] = SPACE;
     put_digits(&mut bytes, 11, 10, width, handle);
     bytes[11 + width] = LINE_END;

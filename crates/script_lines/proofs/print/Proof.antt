@@ -1,7 +1,8 @@
 -- `script_lines::print` meets its contract: each part is put after those before it.
 use Rattle.base.{specs.Base.{ℕ, _+_, _≤_, _≡_, _++_, List, [], _∷_, length, set, take}, proofs.Laws.{_∙_, ap, arith, needs, length-set}}
 use Rattle.script_lines.proofs.{Widths.decimal-bound, Printing.{put-byte, put-action, put-reply}, print.Statement.statement}
-use Rattle.script_lines.specs.{Lines.space, Print.{digits, lineEnd}, Found.seenOf}
+use Rattle.reply_numbers.specs.Numbers.{answerSeen}
+use Rattle.script_lines.specs.{Lines.space, Print.{digits, lineEnd}}
 use Rattle.script_lines.proofs.print.Tie as tie
 
 -- the handle's digits, and the bytes' length, which both calls keep
@@ -30,7 +31,7 @@ returns c =
     let b = c .put-digits2 .last .0 in
     let l = long c in
     let status = t .status-of .result in
-    let action = o .action-of .result in
+    let action = o .action-byte .result in
     let handle = h .handle-of .result in
     let text = digits 16 8 status ++ (space ∷ action ∷ space ∷ []) in
     record {
@@ -41,7 +42,7 @@ returns c =
           ∙ ap (λ (x : List ℕ). x ++ digits 10 n handle)
           (put-action (p .put-digits .last .0) (digits 16 8 status) action (p .put-digits .ensures .is) (p .put-digits .ensures .kept)))
           (omega arith)
-          ∙ put-reply (seenOf (h .before .args .a)) status action handle n (t .status-of .ensures) (o .action-of .ensures) (h .handle-of .ensures) (w .decimal-width .ensures);
+          ∙ put-reply (answerSeen (h .before .args .a)) status action handle n (t .status-of .ensures) (o .action-byte .ensures) (h .handle-of .ensures) (w .decimal-width .ensures);
       within = omega arith;
       long = simp length-set l;
     }

@@ -1,12 +1,12 @@
--- `script_lines::action_of` meets its contract: the digit of an action, or `-`.
+-- `script_lines::action_byte` meets its contract: the digit of an action, or `-`.
 use Rattle.base.{specs.Base.{seen, actionNumber}, proofs.Laws.needs}
-use Rattle.script_lines.proofs.action_of.Statement.{statement}
+use Rattle.script_lines.proofs.action_byte.Statement.{statement}
 use Rattle.script_lines.specs.Print.{digit, actionByte}
-use Rattle.script_lines.proofs.action_of.Tie as tie
+use Rattle.script_lines.proofs.action_byte.Tie as tie
 
-pub action-of-spec : {M : Type 1} → statement M
+pub action-byte-spec : {M : Type 1} → statement M
 unfolding seen actionNumber actionByte digit
-action-of-spec =
+action-byte-spec =
     tie.close
     (tie.spec
     (λ c. search needs)

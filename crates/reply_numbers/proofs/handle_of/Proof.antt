@@ -1,7 +1,7 @@
--- `script_lines::handle_of` meets its contract: only an open that succeeds has one.
+-- `reply_numbers::handle_of` meets its contract: only an open that succeeds has one.
 use Rattle.base.{specs.Base.{seen}, proofs.Laws.needs}
-use Rattle.script_lines.proofs.handle_of.Statement.{statement}
-use Rattle.script_lines.proofs.handle_of.Tie as tie
+use Rattle.reply_numbers.proofs.handle_of.Statement.{statement}
+use Rattle.reply_numbers.proofs.handle_of.Tie as tie
 
 pub handle-of-spec : {M : Type 1} → statement M
 unfolding seen

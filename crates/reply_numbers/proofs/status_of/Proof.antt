@@ -1,7 +1,7 @@
--- `script_lines::status_of` meets its contract: only a refusal has one that is not 0.
+-- `reply_numbers::status_of` meets its contract: only a refusal has one that is not 0.
 use Rattle.base.{specs.Base.{seen}, proofs.Laws.needs}
-use Rattle.script_lines.proofs.status_of.Statement.{statement}
-use Rattle.script_lines.proofs.status_of.Tie as tie
+use Rattle.reply_numbers.proofs.status_of.Statement.{statement}
+use Rattle.reply_numbers.proofs.status_of.Tie as tie
 
 pub status-of-spec : {M : Type 1} → statement M
 unfolding seen

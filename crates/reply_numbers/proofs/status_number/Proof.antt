@@ -1,7 +1,7 @@
--- `script_lines::status_number` meets its contract: the code's match is the definition's.
+-- `reply_numbers::status_number` meets its contract: the code's match is the definition's.
 use Rattle.base.{specs.Base.statusNumber, proofs.Laws.needs}
-use Rattle.script_lines.proofs.status_number.Statement.{statement}
-use Rattle.script_lines.proofs.status_number.Tie as tie
+use Rattle.reply_numbers.proofs.status_number.Statement.{statement}
+use Rattle.reply_numbers.proofs.status_number.Tie as tie
 
 pub status-number-spec : {M : Type 1} → statement M
 unfolding statusNumber

@@ -1,0 +1,3 @@
+-- The C interface.
+pub mod Interface
+pub mod Returns

@@ -1,0 +1,2 @@
+-- An answer in numbers.
+pub mod Numbers
