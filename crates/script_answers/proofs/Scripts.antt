@@ -1,11 +1,10 @@
 -- Every script on lent bytes (specs/Scripts.antt has the statement): the tables that the bytes stand for go through the
 -- lines as the model does.
 use Rattle.base.{specs.Base.{ℕ, _≡_, true, List, [], _∷_, _++_, Option, none, some, seen, Reply, Tables}, proofs.Laws.{refl, _∙_, ap, ap₂}}
-use Rattle.call_contracts.{specs.Sequences.noCall, proofs.Sequences.{agree-related, every-sequence-of-calls}
-use Rattle.format.specs.Format.{format}
+use Rattle.call_contracts.{specs.Sequences.noCall, proofs.Sequences.{agree-related, every-sequence-of-calls}}
 use Rattle.layout.{specs.Layout.{decode, standsForTables}, proofs.Calls.on-tables}
 use Rattle.script_lines.specs.{Lines.parseLine, Print.printed, Script.{Answered, performed, answered, script}}
-use Rattle.store.{specs.{Model.{Model, modelFormat}, Calls.{Call, run, storeStep, modelStep}}, proofs.Sequences.{Steps.together, Views.Related}}
+use Rattle.store.{specs.{Model.Model, Calls.{Call, run, storeStep, modelStep}}, proofs.Sequences.{Steps.together, Views.Related}}
 use Rattle.script_answers.specs.{Answers.bytesStep, Scripts.{LinesAnswered, noLine, nextLine, EveryScript}}
 
 -- a line prints on bytes that stand for tables what it prints on the tables
