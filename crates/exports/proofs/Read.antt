@@ -52,6 +52,10 @@ module _ (bytes : List ℕ) where
       let long : length (pathOf bytes) ≡ suc pathLimit = ap length (path-odd (eqb-false (length bytes % 2) 0 e)) in
       omega (arith, long))
 
+  -- step 4 refuses an odd length
+  pub odd-refused : (length bytes % 2 ≡ 0 → ⊥) → (d f : Bool) → parsePath d f (pathOf bytes) ≡ refuse ObjectNameInvalid
+  odd-refused h d f = over-limit d f (pathOf bytes) (path-over (inl h))
+
   pub unread : (units : List ℕ) → length units ≡ suc pathLimit
       → (length bytes % 2 ≡ 0 → ⊥) ⊎ (suc pathLimit ≤ length bytes / 2)
       → ReadsAs (record { units = units; count = suc pathLimit }) bytes
