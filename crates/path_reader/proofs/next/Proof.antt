@@ -48,7 +48,7 @@ use Rattle.components.proofs.next_component.Symbol as component-def
 use Rattle.components.proofs.next_component.Symbol.{name as #components·next-component}
 use Rattle.components.proofs.next_component.Met as component-thm
 use Rattle.path_reader.specs.{Reading.{readerAt, componentOf}, declared.{PathReader.PathReader, Step.Step}}
-use Rattle.path_reader.proofs.Held.{Reader, Units, unitsVal, Held, together, apart, alone}
+use Rattle.path_reader.proofs.{Walk.answered, Params.{unitsVal, passed, Units, asked}, Held.{Reader, Held, together, apart}}
 use Rattle.path_reader.proofs.PathReader as T
 use Rattle.path_reader.proofs.PathReader.Laws as T′
 use Rattle.path_reader.proofs.Step as S
@@ -78,14 +78,8 @@ module _ {M : Type 1} (𝓤 : URA M) (H : Heap 𝓤) (A : Atoms 𝓤) (W : Given
   Post = walkOf 𝓤 H A next.ended stayed (next.clauses 𝓤 H A mem run) .post (((κ, tt), (q, tt), tt, (d, tt), (mach ∷ [], tt)), tt)
 
   -- what the callee is passed
-  abbrev passed : Vals component.signature (κ, tt)
-  passed = (unitsVal (d .units) ∷ [], (vint w64 (d .at) ∷ [], tt))
-
   abbrev to : NextComponent 𝓤 H A mem run .Ghost
-  to = (((κ, tt), (q, tt), tt, (d .units, (d .at, tt)), passed), tt)
-
-  asked : ent 𝓤 (onEntry 𝓤 H A component.signature (κ, tt) (q, tt) (d .units, (d .at, tt)) passed) (NextComponent 𝓤 H A mem run .pre to)
-  asked = qed W ((‵ (flft κ q) ⊛ ‵ ftrue) ∷ ‵ (owns (ShrSlice (named 0) κ u16 ∷ usize ∷ []) (d .units, (d .at, tt)) passed) ∷ []) ∵ join ! $ frame ! $ done !
+  to = (((κ, tt), (q, tt), tt, (d .units, (d .at, tt)), passed (d .units) (d .at)), tt)
 
   -- what the reader owns gives what the callee asks, and is kept
   goes : d .at < 2 ^ 64 → ent 𝓤 (onEntry 𝓤 H A next.signature (κ, tt) (q, tt) (d, tt) (mach ∷ [], tt)) (sep 𝓤 (NextComponent 𝓤 H A mem run .pre to) (sem 𝓤 H A (Held κ d)))
@@ -93,11 +87,7 @@ module _ {M : Type 1} (𝓤 : URA M) (H : Heap 𝓤) (A : Atoms 𝓤) (W : Given
       qed W ((‵ (flft κ q) ⊛ ‵ ftrue) ∷ ‵ (owns (Reader (κ, tt) ∷ []) (d, tt) (mach ∷ [], tt)) ∷ []) ∵
       move ! (1 ∷ []) $ fsplit ! $ move ! (1 ∷ []) $ drop ! $ use1 W (‵ (Units κ (d .units)) ⊛ ‵ (Held κ d)) (apart κ 𝓤 H A W d) $ split ! $
       -- [what the units own; what the reader owns; the token]
-      nothing ! $ owned ! usize (Is usize) (uint-makes 𝓤 H A W w64) (d .at) _ (refl, fits) $ fjoin ! $ move ! (1 ∷ 0 ∷ []) $ fjoin ! $
-      move ! (2 ∷ 0 ∷ []) $ use2 W (raw (NextComponent 𝓤 H A mem run .pre to)) asked $ frame ! $ done !
-
-  said : (p : Part) → ent 𝓤 (ensured 𝓤 H A component.ended (component.clauses 𝓤 H A mem run) (κ, tt) (d .units, (d .at, tt)) tt p) (fact 𝓤 (p ≡ componentOf d))
-  said p = alone 𝓤 H A (lasts component.ended (κ, tt) (d .units, (d .at, tt))) (p ≡ componentOf d)
+      move ! (2 ∷ 0 ∷ []) $ use2 W (raw (NextComponent 𝓤 H A mem run .pre to)) (asked 𝓤 H A W κ (d .units) (d .at) q fits) $ frame ! $ done !
 
   exits : (p : Part) → p ≡ componentOf d → p .end < 2 ^ 64 → ent 𝓤 (⋆ 𝓤 H A (‵ (P.the-row .own p (P′.lowered p ∷ [])) ∷ (‵ (flft κ q) ⊛ ‵ ftrue) ∷ ‵ (Held κ d) ∷ [])) (Post (S′.lowered (made d p)))
   exits p e fits =
@@ -118,14 +108,10 @@ module _ {M : Type 1} (𝓤 : URA M) (H : Heap 𝓤) (A : Atoms 𝓤) (W : Given
         assigns ! (of-opd ! (load ! (from ! (fld ! refl (stop !))) (look-in ! 10 (sub ! 0 refl (whole !))))) (from ! (stop !)) (init ! 6 refl (tt, wt .1 .0)) $
         assigns ! (of-opd ! (load ! (from ! (fld ! refl (stop !))) (look-in ! 10 (sub ! 1 refl (whole !))))) (from ! (stop !)) (init ! 4 refl (tt, wt .1 .1 .0)) $
         move ! (14 ∷ []) $ use1 W (raw (NextComponent 𝓤 H A mem run .pre to) ⊛ ‵ (Held κ d)) (goes (wt .1 .1 .0 .fits)) $ split ! $
-        calls-at ! fm (NextComponent 𝓤 H A mem run) known to (and-then ! (load ! (from ! (stop !)) (look ! 8 refl)) (and-then ! (load ! (from ! (stop !)) (look ! 6 refl)) (no-more !))) (λ u.
-        use1 W (later (some (λ (p : Part). ((‵ (flft κ q) ⊛ ‵ ftrue) ⊛ ‵ (P.the-row .own p (u ∷ []))) ⊛ raw (ensured 𝓤 H A component.ended (component.clauses 𝓤 H A mem run) (κ, tt) (d .units, (d .at, tt)) tt p)))) (id⊢ 𝓤 _) $ await ! tt $ pick ! (λ p.
-        split ! $ move ! (1 ∷ []) $ use1 W (raw (fact 𝓤 (p ≡ componentOf d))) (said p) $ heard ! (p ≡ componentOf d) (λ e. split ! $ move ! (1 ∷ []) $
+        calls-at ! fm (NextComponent 𝓤 H A mem run) known to (and-then ! (load ! (from ! (stop !)) (look ! 8 refl)) (and-then ! (load ! (from ! (stop !)) (look ! 6 refl)) (no-more !))) (
+        answered ! P.the-row P′.lowers (lasts component.ended (κ, tt) (d .units, (d .at, tt))) (λ p. p ≡ componentOf d) (λ p e is.
         -- [what the part owns; the token; what the reader owns; _6; …; _5; …; _4; …; _3; …; room for _2; …; _1; …; room for _0; …]
-        peeks ! P.the-row (Is P.the-row) (shows 𝓤 H A P.the-row) p (u ∷ []) (λ is.
         land ! (from ! (stop !)) (init ! 11 refl (LL.lawful P.the-type P′.the-laws 𝓤 H A W .typed p _ is .0)) $
-        rewrite ! 11 (λ (w : Val). ‵ (fat fullShare P′.mir l₂ 0 w)) (ap only (LL.tells P.the-type P′.the-laws p _ is)) refl $
-        rewrite ! 0 (λ (w : Val). ‵ (P.the-row .own p (w ∷ []))) (ap only (LL.tells P.the-type P′.the-laws p _ is)) refl $
         assigns ! (of-opd ! (load ! (from ! (fld ! refl (stop !))) (look-in ! 13 (sub ! 0 refl (whole !))))) (from ! (stop !)) (init ! 5 refl (tt, wt .1 .0)) $
         assigns ! (agg ! (and-then ! (load ! (from ! (stop !)) (look ! 5 refl)) (and-then ! (load ! (from ! (fld ! refl (stop !))) (look-in ! 11 (sub ! 1 refl (whole !)))) (no-more !)))) (from ! (stop !))
         (init ! 3 refl (tt, (wt .1 .0, (record { fits = LL.owed P.the-type P′.the-laws p _ is .1 .0 .1 }, tt)))) $
@@ -133,7 +119,7 @@ module _ {M : Type 1} (𝓤 : URA M) (H : Heap 𝓤) (A : Atoms 𝓤) (W : Given
         (init ! 15 refl (tt, ((record { fits = LL.owed P.the-type P′.the-laws p _ is .0 .1 }, (record { fits = LL.owed P.the-type P′.the-laws p _ is .1 .0 .1 }, tt)), ((wt .1 .0, (record { fits = LL.owed P.the-type P′.the-laws p _ is .1 .0 .1 }, tt)), tt)))) $
         returns ! (look ! 15 refl) $ forget ! 3 refl $ forget ! 5 refl $ forget ! 7 refl $ forget ! 9 refl $ forget ! 11 refl $ forget ! 13 refl $ forget ! 15 refl $
         move ! (15 ∷ 16 ∷ []) $ free1 ! $ move ! (13 ∷ 14 ∷ []) $ free1 ! $ move ! (11 ∷ 12 ∷ []) $ free1 ! $ move ! (9 ∷ 10 ∷ []) $ free1 ! $
-        move ! (7 ∷ 8 ∷ []) $ free1 ! $ move ! (5 ∷ 6 ∷ []) $ free1 ! $ move ! (3 ∷ 4 ∷ []) $ free1 ! $ free0 ! $ by ! (exits p e (LL.owed P.the-type P′.the-laws p _ is .1 .0 .1)))))))))))))
+        move ! (7 ∷ 8 ∷ []) $ free1 ! $ move ! (5 ∷ 6 ∷ []) $ free1 ! $ move ! (3 ∷ 4 ∷ []) $ free1 ! $ free0 ! $ by ! (exits p e (LL.owed P.the-type P′.the-laws p _ is .1 .0 .1)))))))))))
 
 module _ {M : Type 1} (𝓤 : URA M) (H : Heap 𝓤) (A : Atoms 𝓤) (W : Given 𝓤 H A) (mem : Memory → SProp 𝓤) (run : Routine → Fun 𝓤) where
   next-walks : (C : Calls 𝓤 H) (Λ : Loops 𝓤 H) → FmC 𝓤 H (W .laws) C → Triple 𝓤 (C #components·next-component) (NextComponent 𝓤 H A mem run)

@@ -44,7 +44,7 @@ use denote.Exit.{yes}
 use Rattle.components.specs.{Positions.nextComponent, declared.Part.Part}
 use Rattle.components.proofs.Part.Laws as P′
 use Rattle.path_reader.specs.{Reading.{readerAt, stepOf}, declared.{PathReader.PathReader, Step.Step}}
-use Rattle.path_reader.proofs.Held.{Reader, Units, unitsVal, alone}
+use Rattle.path_reader.proofs.{Walk.{answered, field-owned}, Params.{unitsVal, passed, Units, Owned, stays, goes, spelled, told, lent, asked}, Held.{Reader, Held}}
 use Rattle.path_reader.proofs.PathReader as T
 use Rattle.path_reader.proofs.PathReader.Laws as T′
 use Rattle.path_reader.proofs.Step as S
@@ -62,9 +62,6 @@ use Rattle.path_reader.proofs.read_component as read-component
 use Rattle.path_reader.proofs.read_component.Statement as stated
 use Rattle.path_reader.proofs.read_component.Code as code
 
-abbrev stayed : Stays (read-component.ended .signature .params) (read-component.ended .kept)
-stayed = (stay-none-slice (0 ∷ []) tt (plain (λ _. u16)) yes, (stay-none (λ _. usize) yes, tt))
-
 module _ {M : Type 1} (𝓤 : URA M) (H : Heap 𝓤) (A : Atoms 𝓤) (mem : Memory → SProp 𝓤) (run : Routine → Fun 𝓤) where
   -- the contracts that the proof cites
   abbrev ReaderAt : Contract 𝓤
@@ -74,10 +71,6 @@ module _ {M : Type 1} (𝓤 : URA M) (H : Heap 𝓤) (A : Atoms 𝓤) (mem : Mem
   Next = tripleOf 𝓤 H A next.signature (next.spec 𝓤 H A mem run)
 
 module _ {M : Type 1} (𝓤 : URA M) (H : Heap 𝓤) (A : Atoms 𝓤) (W : Given 𝓤 H A) (mem : Memory → SProp 𝓤) (run : Routine → Fun 𝓤) (κ : Lft) (q : Share) (s : RefT (List ℕ)) (n : ℕ) (fits : n < 2 ^ 64) where
-  -- what is passed
-  abbrev passed : Vals read-component.signature (κ, tt)
-  passed = (unitsVal s ∷ [], (vint w64 n ∷ [], tt))
-
   -- a step's type, and the two structs' types as a local of a body has them
   abbrev α : NamedLft
   α = namedLft 1 0 tt (κ, tt)
@@ -98,82 +91,66 @@ module _ {M : Type 1} (𝓤 : URA M) (H : Heap 𝓤) (A : Atoms 𝓤) (W : Given
   fields t = (t .component, (t .reader, tt))
 
   abbrev Post : Val → SProp 𝓤
-  Post = walkOf 𝓤 H A read-component.ended stayed (read-component.clauses 𝓤 H A mem run) .post (((κ, tt), (q, tt), tt, (s, (n, tt)), passed), tt)
+  Post = walkOf 𝓤 H A read-component.ended stays (read-component.clauses 𝓤 H A mem run) .post (((κ, tt), (q, tt), tt, (s, (n, tt)), passed s n), tt)
 
-  -- the call of `reader_at`: what it is passed, what it asks, and what is known of its result
+  -- the call of `reader_at`: what it is passed, and what it asks. What the parameters own is kept
   abbrev to-reader-at : ReaderAt 𝓤 H A mem run .Ghost
-  to-reader-at = (((κ, tt), (q, tt), tt, (s, (n, tt)), passed), tt)
+  to-reader-at = (((κ, tt), (q, tt), tt, (s, (n, tt)), passed s n), tt)
 
-  goes-reader-at : ent 𝓤 (onEntry 𝓤 H A read-component.signature (κ, tt) (q, tt) (s, (n, tt)) passed) (sep 𝓤 (ReaderAt 𝓤 H A mem run .pre to-reader-at) (sem 𝓤 H A (Units κ s)))
+  goes-reader-at : ent 𝓤 (onEntry 𝓤 H A read-component.signature (κ, tt) (q, tt) (s, (n, tt)) (passed s n)) (sep 𝓤 (ReaderAt 𝓤 H A mem run .pre to-reader-at) (sem 𝓤 H A (Owned κ s n)))
   goes-reader-at =
-      qed W ((‵ (flft κ q) ⊛ ‵ ftrue) ∷ ‵ (owns (ShrSlice (named 0) κ u16 ∷ usize ∷ []) (s, (n, tt)) passed) ∷ []) ∵
-      move ! (1 ∷ []) $ fsplit ! $ use1 W (‵ (Units κ s) ⊛ ‵ (Units κ s)) (shr-slice-copy 𝓤 H A W (named 0) κ u16 .twice s (unitsVal s ∷ [])) $ split ! $
-      move ! (0 ∷ 2 ∷ []) $ fjoin ! $ move ! (2 ∷ 0 ∷ []) $
-      use2 W (raw (ReaderAt 𝓤 H A mem run .pre to-reader-at)) (qed W ((‵ (flft κ q) ⊛ ‵ ftrue) ∷ ‵ (owns (ShrSlice (named 0) κ u16 ∷ usize ∷ []) (s, (n, tt)) passed) ∷ []) ∵ join ! $ frame ! $ done !) $ frame ! $ done !
+      qed W ((‵ (flft κ q) ⊛ ‵ ftrue) ∷ ‵ (Owned κ s n) ∷ []) ∵
+      move ! (1 ∷ []) $ use1 W (‵ (Units κ s) ⊛ ‵ (Owned κ s n)) (lent 𝓤 H A W κ s n) $ split ! $ move ! (2 ∷ 0 ∷ []) $ use2 W (raw (ReaderAt 𝓤 H A mem run .pre to-reader-at)) (asked 𝓤 H A W κ s n q fits) $ frame ! $ done !
 
-  reader-at-said : (r : PathReader) → ent 𝓤 (ensured 𝓤 H A reader-at.ended (reader-at.clauses 𝓤 H A mem run) (κ, tt) (s, (n, tt)) tt r) (fact 𝓤 (r ≡ readerAt s n))
-  reader-at-said r = alone 𝓤 H A (lasts reader-at.ended (κ, tt) (s, (n, tt))) (r ≡ readerAt s n)
+  -- the call of `next`, at the reader r
+  abbrev to-next : PathReader → Next 𝓤 H A mem run .Ghost
+  to-next r = (((κ, tt), (q, tt), tt, (r, tt), (T′.lowered r ∷ [], tt)), tt)
 
-  -- the call of `next`, at the reader r with the machine value u
-  abbrev to-next : PathReader → Val → Next 𝓤 H A mem run .Ghost
-  to-next r u = (((κ, tt), (q, tt), tt, (r, tt), (u ∷ [], tt)), tt)
-
-  goes-next : (r : PathReader) (u : Val) → ent 𝓤 (⋆ 𝓤 H A (‵ (Reader (κ, tt) .own r (u ∷ [])) ∷ (‵ (flft κ q) ⊛ ‵ ftrue) ∷ [])) (Next 𝓤 H A mem run .pre (to-next r u))
-  goes-next r u = qed W (‵ (Reader (κ, tt) .own r (u ∷ [])) ∷ (‵ (flft κ q) ⊛ ‵ ftrue) ∷ []) ∵ nothing ! $ move ! (1 ∷ 0 ∷ []) $ fjoin ! $ move ! (1 ∷ 0 ∷ []) $ join ! $ frame ! $ done !
-
-  next-said : (r : PathReader) (t : Step) → ent 𝓤 (ensured 𝓤 H A next.ended (next.clauses 𝓤 H A mem run) (κ, tt) (r, tt) tt t) (fact 𝓤 (t ≡ stepOf r))
-  next-said r t = alone 𝓤 H A (lasts next.ended (κ, tt) (r, tt)) (t ≡ stepOf r)
+  goes-next : (r : PathReader) → ent 𝓤 (⋆ 𝓤 H A (‵ (Held κ r) ∷ (‵ (flft κ q) ⊛ ‵ ftrue) ∷ [])) (Next 𝓤 H A mem run .pre (to-next r))
+  goes-next r = qed W (‵ (Held κ r) ∷ (‵ (flft κ q) ⊛ ‵ ftrue) ∷ []) ∵ nothing ! $ move ! (1 ∷ 0 ∷ []) $ fjoin ! $ move ! (1 ∷ 0 ∷ []) $ join ! $ frame ! $ done !
 
   -- of what the step owns, what its component owns is the result's
-  exits : (t : Step) → t .component ≡ nextComponent (now s) n → ent 𝓤 (⋆ 𝓤 H A (‵ (StepRow .own t (S′.lowered t ∷ [])) ∷ (‵ (flft κ q) ⊛ ‵ ftrue) ∷ ‵ (Units κ s) ∷ [])) (Post (P′.lowered (t .component)))
+  exits : (t : Step) → t .component ≡ nextComponent (now s) n → ent 𝓤 (⋆ 𝓤 H A (‵ (StepRow .own t (S′.lowered t ∷ [])) ∷ (‵ (flft κ q) ⊛ ‵ ftrue) ∷ ‵ (Owned κ s n) ∷ [])) (Post (P′.lowered (t .component)))
   exits t e =
-      qed W (‵ (StepRow .own t (S′.lowered t ∷ [])) ∷ (‵ (flft κ q) ⊛ ‵ ftrue) ∷ ‵ (Units κ s) ∷ []) ∵
-      suffices ! _ (ends-at 𝓤 H A read-component.ended stayed (read-component.clauses 𝓤 H A mem run) W (((κ, tt), (q, tt), tt, (s, (n, tt)), passed), tt) (P′.lowered (t .component)) (t .component) (tt, (tt, tt)) (tt, (tt, tt))) $ says ! e $
-      move ! (1 ∷ []) $ frame ! $ nothing ! $ owned ! usize (Is usize) (uint-makes 𝓤 H A W w64) n _ (refl, fits) $ fjoin ! $ move ! (2 ∷ 0 ∷ []) $ fjoin ! $ frame ! $
-      use1 W (given (S′.lowered t ∷ [] ≡ S′.lowered t ∷ []) (‵ (all-own (D .parts) L (fields t)))) (own-open 𝓤 H A W D L (fields t) (S′.lowered t)) $ learn ! (λ _.
-      use1 W (‵ (ownAt (D .parts) L 0 (t .component)) ⊛ ‵ (rest (D .parts) L 0 (fields t))) (own-out 𝓤 H A W (D .parts) L 0 (fields t)) $ split ! $ move ! (1 ∷ []) $ drop ! $ done !)
+      qed W (‵ (StepRow .own t (S′.lowered t ∷ [])) ∷ (‵ (flft κ q) ⊛ ‵ ftrue) ∷ ‵ (Owned κ s n) ∷ []) ∵
+      suffices ! _ (ends-at 𝓤 H A read-component.ended stays (read-component.clauses 𝓤 H A mem run) W (((κ, tt), (q, tt), tt, (s, (n, tt)), passed s n), tt) (P′.lowered (t .component)) (t .component) (tt, (tt, tt)) (tt, (tt, tt))) $ says ! e $
+      move ! (1 ∷ []) $ frame ! $ move ! (1 ∷ []) $ frame ! $ by ! (field-owned 𝓤 H A W D L 0 (fields t) (S′.lowered t))
 
   module _ (C : Calls 𝓤 H) (Λ : Loops 𝓤 H) (fm : FmC 𝓤 H (W .laws) C) (known-reader-at : Triple 𝓤 (C #path-reader·reader-at) (ReaderAt 𝓤 H A mem run)) (known-next : Triple 𝓤 (C #path-reader·next) (Next 𝓤 H A mem run)) where
-    walk : Is (ShrSlice (named 0) κ u16) s (unitsVal s ∷ []) → ent 𝓤 (onEntry 𝓤 H A read-component.signature (κ, tt) (q, tt) (s, (n, tt)) passed) (WpFn 𝓤 H C Λ code.function (unitsVal s ∷ vint w64 n ∷ []) Post)
+    walk : Is (ShrSlice (named 0) κ u16) s (unitsVal s ∷ []) → ent 𝓤 (onEntry 𝓤 H A read-component.signature (κ, tt) (q, tt) (s, (n, tt)) (passed s n)) (WpFn 𝓤 H C Λ code.function (unitsVal s ∷ vint w64 n ∷ []) Post)
     walk p =
-        qed W (raw (onEntry 𝓤 H A read-component.signature (κ, tt) (q, tt) (s, (n, tt)) passed) ∷ []) ∵ enter ! C Λ code.function (unitsVal s ∷ vint w64 n ∷ []) _ $
+        qed W (raw (onEntry 𝓤 H A read-component.signature (κ, tt) (q, tt) (s, (n, tt)) (passed s n)) ∷ []) ∵ enter ! C Λ code.function (unitsVal s ∷ vint w64 n ∷ []) _ $
         alloc1 ! (λ l₀. alloc1 ! (λ l₁. alloc1 ! (λ l₂. alloc1 ! (λ l₃. alloc1 ! (λ l₄. alloc0 ! $ params1 ! $
         pass1 ! (init ! 6 refl (shr-slice-lawful 𝓤 H A W (named 0) κ u16 .typed s (unitsVal s ∷ []) p .0)) $ pass1 ! (init ! 4 refl (tt, record { fits = fits })) $ pass0 ! $
         -- [room for _4; …; room for _3; …; _2; …; _1; …; room for _0; …; what the parameters own]
-        move ! (10 ∷ []) $ use1 W (raw (ReaderAt 𝓤 H A mem run .pre to-reader-at) ⊛ ‵ (Units κ s)) goes-reader-at $ split ! $
-        calls-at ! fm (ReaderAt 𝓤 H A mem run) known-reader-at to-reader-at (and-then ! (load ! (from ! (stop !)) (look ! 8 refl)) (and-then ! (load ! (from ! (stop !)) (look ! 6 refl)) (no-more !))) (λ u.
-        use1 W (later (some (λ (r : PathReader). ((‵ (flft κ q) ⊛ ‵ ftrue) ⊛ ‵ (Reader (κ, tt) .own r (u ∷ []))) ⊛ raw (ensured 𝓤 H A reader-at.ended (reader-at.clauses 𝓤 H A mem run) (κ, tt) (s, (n, tt)) tt r)))) (id⊢ 𝓤 _) $ await ! tt $ pick ! (λ r.
-        split ! $ move ! (1 ∷ []) $ use1 W (raw (fact 𝓤 (r ≡ readerAt s n))) (reader-at-said r) $ heard ! (r ≡ readerAt s n) (λ e. split ! $ move ! (1 ∷ []) $
-        -- [what the reader owns; the token; what the units own; room for _4; …; room for _3; …; _2; …; _1; …; room for _0; …]
-        peeks ! (Reader (κ, tt)) (Is (Reader (κ, tt))) (shows 𝓤 H A (Reader (κ, tt))) r (u ∷ []) (λ is.
+        move ! (10 ∷ []) $ use1 W (raw (ReaderAt 𝓤 H A mem run .pre to-reader-at) ⊛ ‵ (Owned κ s n)) goes-reader-at $ split ! $
+        calls-at ! fm (ReaderAt 𝓤 H A mem run) known-reader-at to-reader-at (and-then ! (load ! (from ! (stop !)) (look ! 8 refl)) (and-then ! (load ! (from ! (stop !)) (look ! 6 refl)) (no-more !))) (
+        answered ! (Reader (κ, tt)) (T′.lowers α) (lasts reader-at.ended (κ, tt) (s, (n, tt))) (λ r. r ≡ readerAt s n) (λ r e is.
+        -- [what the reader owns; the token; what the parameters own; room for _4; …; room for _3; …; _2; …; _1; …; room for _0; …]
         land ! (from ! (stop !)) (init ! 3 refl (LL.lawful (T.the-type αᵉ) (T′.the-laws αᵉ) 𝓤 H A W .typed r _ is .0)) $
-        use2 W (raw (Next 𝓤 H A mem run .pre (to-next r u))) (goes-next r u) $
-        calls-at ! fm (Next 𝓤 H A mem run) known-next (to-next r u) (and-then ! (load ! (from ! (stop !)) (look ! 2 refl)) (no-more !)) (λ u′.
-        use1 W (later (some (λ (t : Step). ((‵ (flft κ q) ⊛ ‵ ftrue) ⊛ ‵ (StepRow .own t (u′ ∷ []))) ⊛ raw (ensured 𝓤 H A next.ended (next.clauses 𝓤 H A mem run) (κ, tt) (r, tt) tt t)))) (id⊢ 𝓤 _) $ await ! tt $ pick ! (λ t.
-        split ! $ move ! (1 ∷ []) $ use1 W (raw (fact 𝓤 (t ≡ stepOf r))) (next-said r t) $ heard ! (t ≡ stepOf r) (λ e′. split ! $ move ! (1 ∷ []) $
-        -- [what the step owns; the token; what the units own; _4; …; room for _3; …; _2; …; _1; …; room for _0; …]
-        peeks ! StepRow (Is StepRow) (shows 𝓤 H A StepRow) t (u′ ∷ []) (λ is′.
+        use2 W (raw (Next 𝓤 H A mem run .pre (to-next r))) (goes-next r) $
+        calls-at ! fm (Next 𝓤 H A mem run) known-next (to-next r) (and-then ! (load ! (from ! (stop !)) (look ! 2 refl)) (no-more !)) (
+        answered ! StepRow (S′.lowers α) (lasts next.ended (κ, tt) (r, tt)) (λ t. t ≡ stepOf r) (λ t e′ is′.
+        -- [what the step owns; the token; what the parameters own; _4; …; room for _3; …; _2; …; _1; …; room for _0; …]
         land ! (from ! (stop !)) (init ! 5 refl (LL.lawful (S.the-type αᵉ) (S′.the-laws αᵉ) 𝓤 H A W .typed t _ is′ .0)) $
-        rewrite ! 5 (λ (w : Val). ‵ (fat fullShare (S′.mir erased) l₃ 0 w)) (ap only (LL.tells D L t _ is′)) refl $
-        rewrite ! 0 (λ (w : Val). ‵ (StepRow .own t (w ∷ []))) (ap only (LL.tells D L t _ is′)) refl $
         assigns ! (of-opd ! (load ! (from ! (fld ! refl (stop !))) (look-in ! 5 (sub ! 0 refl (whole !))))) (from ! (stop !))
-        (init ! 11 refl (tt, LL.lawful D L 𝓤 H A W .typed t _ (LL.owes D L t (LL.owed D L t _ is′)) .0 .1 .0)) $
+        (init ! 11 refl (tt, LL.lawful D L 𝓤 H A W .typed t _ is′ .0 .1 .0)) $
         returns ! (look ! 11 refl) $ forget ! 3 refl $ forget ! 5 refl $ forget ! 7 refl $ forget ! 9 refl $ forget ! 11 refl $
         move ! (11 ∷ 12 ∷ []) $ free1 ! $ move ! (9 ∷ 10 ∷ []) $ free1 ! $ move ! (7 ∷ 8 ∷ []) $ free1 ! $ move ! (5 ∷ 6 ∷ []) $ free1 ! $ move ! (3 ∷ 4 ∷ []) $ free1 ! $ free0 ! $
-        by ! (exits t (ap (λ (x : Step). x .component) (e′ ∙ ap stepOf e))))))))))))))))
+        by ! (exits t (ap (λ (x : Step). x .component) (e′ ∙ ap stepOf e))))))))))))
 
 module _ {M : Type 1} (𝓤 : URA M) (H : Heap 𝓤) (A : Atoms 𝓤) (W : Given 𝓤 H A) (mem : Memory → SProp 𝓤) (run : Routine → Fun 𝓤) where
   read-component-walks : (C : Calls 𝓤 H) (Λ : Loops 𝓤 H) → FmC 𝓤 H (W .laws) C → Triple 𝓤 (C #path-reader·reader-at) (ReaderAt 𝓤 H A mem run) → Triple 𝓤 (C #path-reader·next) (Next 𝓤 H A mem run)
-      → Walks 𝓤 H A read-component.ended stayed (WpFn 𝓤 H C Λ code.function) (read-component.clauses 𝓤 H A mem run)
+      → Walks 𝓤 H A read-component.ended stays (WpFn 𝓤 H C Λ code.function) (read-component.clauses 𝓤 H A mem run)
   read-component-walks C Λ fm known-reader-at known-next =
-      walked 𝓤 H A read-component.ended stayed (read-component.clauses 𝓤 H A mem run) (WpFn 𝓤 H C Λ code.function) (λ κs. (slice-vals, (uint-vals w64, tt))) (λ κs. (shr-slice-tells (named 0) (κs .0) u16, (uint-tells w64, tt)))
+      walked 𝓤 H A read-component.ended stays (read-component.clauses 𝓤 H A mem run) (WpFn 𝓤 H C Λ code.function) spelled told
       (λ κs qs bounds a g are. via 𝓤 _ (fst∗ 𝓤 _ (emp 𝓤)) (walk 𝓤 H A W mem run (κs .0) (qs .0) (a .0) (a .1 .0) (are .1 .0 .1) C Λ fm known-reader-at known-next (are .0)))
 
 read-component-meets : {M : Type 1} (𝓤 : URA M) (H : Heap 𝓤) (A : Atoms 𝓤) (W : Given 𝓤 H A) (mem : Memory → SProp 𝓤) (run : Routine → Fun 𝓤) (𝓣 : Tables 𝓤 H)
     → Triple 𝓤 (𝓣 .C #path-reader·reader-at) (ReaderAt 𝓤 H A mem run) → Triple 𝓤 (𝓣 .C #path-reader·next) (Next 𝓤 H A mem run)
     → Meets 𝓤 H A read-component.signature (WpFn 𝓤 H (𝓣 .C) (𝓣 .Λ) code.function) (read-component.spec 𝓤 H A mem run)
 read-component-meets 𝓤 H A W mem run 𝓣 known-reader-at known-next =
-    walk-meets 𝓤 H A read-component.ended stayed W (goes-none-slice 𝓤 H A W 1 (0 ∷ []) tt (plain (λ _. u16)) yes, (goes-none 𝓤 H A W 1 (λ _. usize) yes (λ κs x f. refl), tt))
+    walk-meets 𝓤 H A read-component.ended stays W (goes 𝓤 H A W)
     (read-component.clauses 𝓤 H A mem run) (WpFn 𝓤 H (𝓣 .C) (𝓣 .Λ) code.function) (WpFn-mono 𝓤 H (W .laws) 𝓣 code.function)
     (read-component-walks 𝓤 H A W mem run (𝓣 .C) (𝓣 .Λ) (fmOf 𝓤 H (W .laws) 𝓣) known-reader-at known-next)
 

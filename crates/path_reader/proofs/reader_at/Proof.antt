@@ -31,36 +31,27 @@ use denote.Triple.Table.{entered}
 use denote.Triple.Walked.{says, Stays, stay-none, stay-none-slice, walkOf, goes-none, goes-none-slice, Walks, ends-at, walked, walk-meets}
 use denote.Exit.{yes}
 use Rattle.path_reader.specs.Reading.{readerAt}
-use Rattle.path_reader.proofs.Held.{unitsVal, Units, together}
+use Rattle.path_reader.proofs.{Params.{unitsVal, passed, Units, Owned, stays, goes, spelled, told, lent}, Held.together}
 use Rattle.path_reader.proofs.PathReader.Laws as T′
 use Rattle.path_reader.proofs.reader_at.Key.{name as #path-reader·reader-at}
 use Rattle.path_reader.proofs.reader_at as reader-at
 use Rattle.path_reader.proofs.reader_at.Statement as stated
 use Rattle.path_reader.proofs.reader_at.Code as code
 
-abbrev stayed : Stays (reader-at.ended .signature .params) (reader-at.ended .kept)
-stayed = (stay-none-slice (0 ∷ []) tt (plain (λ _. u16)) yes, (stay-none (λ _. usize) yes, tt))
-
 module _ {M : Type 1} (𝓤 : URA M) (H : Heap 𝓤) (A : Atoms 𝓤) (W : Given 𝓤 H A) (mem : Memory → SProp 𝓤) (run : Routine → Fun 𝓤) (κ : Lft) (q : Share) (s : RefT (List ℕ)) (n : ℕ) (fits : n < 2 ^ 64) where
-  -- what is passed
-  abbrev passed : Vals reader-at.signature (κ, tt)
-  passed = (unitsVal s ∷ [], (vint w64 n ∷ [], tt))
-
   abbrev Post : Val → SProp 𝓤
-  Post = walkOf 𝓤 H A reader-at.ended stayed (reader-at.clauses 𝓤 H A mem run) .post (((κ, tt), (q, tt), tt, (s, (n, tt)), passed), tt)
+  Post = walkOf 𝓤 H A reader-at.ended stays (reader-at.clauses 𝓤 H A mem run) .post (((κ, tt), (q, tt), tt, (s, (n, tt)), passed s n), tt)
 
-  exits : ent 𝓤 (onEntry 𝓤 H A reader-at.signature (κ, tt) (q, tt) (s, (n, tt)) passed) (Post (T′.lowered (readerAt s n)))
+  exits : ent 𝓤 (onEntry 𝓤 H A reader-at.signature (κ, tt) (q, tt) (s, (n, tt)) (passed s n)) (Post (T′.lowered (readerAt s n)))
   exits =
-      qed W ((‵ (flft κ q) ⊛ ‵ ftrue) ∷ ‵ (owns (ShrSlice (named 0) κ u16 ∷ usize ∷ []) (s, (n, tt)) passed) ∷ []) ∵
-      suffices ! _ (ends-at 𝓤 H A reader-at.ended stayed (reader-at.clauses 𝓤 H A mem run) W (((κ, tt), (q, tt), tt, (s, (n, tt)), passed), tt) (T′.lowered (readerAt s n)) (readerAt s n) (tt, (tt, tt)) (tt, (tt, tt))) $ says ! refl $
-      frame ! $ fsplit ! $ use1 W (‵ (Units κ s) ⊛ ‵ (Units κ s)) (shr-slice-copy 𝓤 H A W (named 0) κ u16 .twice s (unitsVal s ∷ [])) $ split ! $ move ! (0 ∷ 2 ∷ []) $ fjoin ! $ frame ! $
-      -- [what the units own]
-      by ! (together κ 𝓤 H A W s n fits)
+      qed W ((‵ (flft κ q) ⊛ ‵ ftrue) ∷ ‵ (Owned κ s n) ∷ []) ∵
+      suffices ! _ (ends-at 𝓤 H A reader-at.ended stays (reader-at.clauses 𝓤 H A mem run) W (((κ, tt), (q, tt), tt, (s, (n, tt)), passed s n), tt) (T′.lowered (readerAt s n)) (readerAt s n) (tt, (tt, tt)) (tt, (tt, tt))) $ says ! refl $
+      frame ! $ use1 W (‵ (Units κ s) ⊛ ‵ (Owned κ s n)) (lent 𝓤 H A W κ s n) $ split ! $ move ! (1 ∷ []) $ frame ! $ by ! (together κ 𝓤 H A W s n fits)
 
   module _ (C : Calls 𝓤 H) (Λ : Loops 𝓤 H) where
-    walk : Is (ShrSlice (named 0) κ u16) s (unitsVal s ∷ []) → ent 𝓤 (onEntry 𝓤 H A reader-at.signature (κ, tt) (q, tt) (s, (n, tt)) passed) (WpFn 𝓤 H C Λ code.function (unitsVal s ∷ vint w64 n ∷ []) Post)
+    walk : Is (ShrSlice (named 0) κ u16) s (unitsVal s ∷ []) → ent 𝓤 (onEntry 𝓤 H A reader-at.signature (κ, tt) (q, tt) (s, (n, tt)) (passed s n)) (WpFn 𝓤 H C Λ code.function (unitsVal s ∷ vint w64 n ∷ []) Post)
     walk p =
-        qed W (raw (onEntry 𝓤 H A reader-at.signature (κ, tt) (q, tt) (s, (n, tt)) passed) ∷ []) ∵ enter ! C Λ code.function (unitsVal s ∷ vint w64 n ∷ []) _ $
+        qed W (raw (onEntry 𝓤 H A reader-at.signature (κ, tt) (q, tt) (s, (n, tt)) (passed s n)) ∷ []) ∵ enter ! C Λ code.function (unitsVal s ∷ vint w64 n ∷ []) _ $
         alloc1 ! (λ l₀. alloc1 ! (λ l₁. alloc1 ! (λ l₂. alloc0 ! $ params1 ! $
         pass1 ! (init ! 2 refl (shr-slice-lawful 𝓤 H A W (named 0) κ u16 .typed s (unitsVal s ∷ []) p .0)) $ pass1 ! (init ! 0 refl (tt, record { fits = fits })) $ pass0 ! $
         -- [_2; …; _1; …; room for _0; …; what the parameters own]
@@ -69,15 +60,15 @@ module _ {M : Type 1} (𝓤 : URA M) (H : Heap 𝓤) (A : Atoms 𝓤) (W : Given
         returns ! (look ! 4 refl) $ forget ! 0 refl $ forget ! 2 refl $ forget ! 4 refl $ move ! (4 ∷ 5 ∷ []) $ free1 ! $ move ! (2 ∷ 3 ∷ []) $ free1 ! $ free1 ! $ free0 ! $ by ! exits)))
 
 module _ {M : Type 1} (𝓤 : URA M) (H : Heap 𝓤) (A : Atoms 𝓤) (W : Given 𝓤 H A) (mem : Memory → SProp 𝓤) (run : Routine → Fun 𝓤) where
-  reader-at-walks : (C : Calls 𝓤 H) (Λ : Loops 𝓤 H) → Walks 𝓤 H A reader-at.ended stayed (WpFn 𝓤 H C Λ code.function) (reader-at.clauses 𝓤 H A mem run)
+  reader-at-walks : (C : Calls 𝓤 H) (Λ : Loops 𝓤 H) → Walks 𝓤 H A reader-at.ended stays (WpFn 𝓤 H C Λ code.function) (reader-at.clauses 𝓤 H A mem run)
   reader-at-walks C Λ =
-      walked 𝓤 H A reader-at.ended stayed (reader-at.clauses 𝓤 H A mem run) (WpFn 𝓤 H C Λ code.function) (λ κs. (slice-vals, (uint-vals w64, tt))) (λ κs. (shr-slice-tells (named 0) (κs .0) u16, (uint-tells w64, tt)))
+      walked 𝓤 H A reader-at.ended stays (reader-at.clauses 𝓤 H A mem run) (WpFn 𝓤 H C Λ code.function) spelled told
       (λ κs qs bounds a g are. via 𝓤 _ (fst∗ 𝓤 _ (emp 𝓤)) (walk 𝓤 H A W mem run (κs .0) (qs .0) (a .0) (a .1 .0) (are .1 .0 .1) C Λ (are .0)))
 
 reader-at-meets : {M : Type 1} (𝓤 : URA M) (H : Heap 𝓤) (A : Atoms 𝓤) → Given 𝓤 H A → (mem : Memory → SProp 𝓤) (run : Routine → Fun 𝓤) (𝓣 : Tables 𝓤 H)
     → Meets 𝓤 H A reader-at.signature (WpFn 𝓤 H (𝓣 .C) (𝓣 .Λ) code.function) (reader-at.spec 𝓤 H A mem run)
 reader-at-meets 𝓤 H A W mem run 𝓣 =
-    walk-meets 𝓤 H A reader-at.ended stayed W (goes-none-slice 𝓤 H A W 1 (0 ∷ []) tt (plain (λ _. u16)) yes, (goes-none 𝓤 H A W 1 (λ _. usize) yes (λ κs x f. refl), tt))
+    walk-meets 𝓤 H A reader-at.ended stays W (goes 𝓤 H A W)
     (reader-at.clauses 𝓤 H A mem run) (WpFn 𝓤 H (𝓣 .C) (𝓣 .Λ) code.function) (WpFn-mono 𝓤 H (W .laws) 𝓣 code.function) (reader-at-walks 𝓤 H A W mem run (𝓣 .C) (𝓣 .Λ))
 
 pub reader-at-spec : {M : Type 1} → stated.statement M
