@@ -110,7 +110,7 @@ module _ {M : Type 1} (𝓤 : URA M) (H : Heap 𝓤) (A : Atoms 𝓤) (W : Given
         assigns ! (agg ! (and-then ! (load ! (from ! (stop !)) (look ! 5 refl)) (and-then ! (load ! (from ! (fld ! refl (stop !))) (look-in ! 11 (sub ! 1 refl (whole !)))) (no-more !)))) (from ! (stop !))
         (init ! 3 refl (tt, (wt .1 .0, (record { fits = LL.owed P.the-type P′.the-laws p _ is .1 .0 .1 }, tt)))) $
         assigns ! (agg ! (and-then ! (load ! (from ! (stop !)) (look ! 11 refl)) (and-then ! (load ! (from ! (stop !)) (look ! 3 refl)) (no-more !)))) (from ! (stop !))
-        (init ! 15 refl (tt, ((record { fits = LL.owed P.the-type P′.the-laws p _ is .0 .1 }, (record { fits = LL.owed P.the-type P′.the-laws p _ is .1 .0 .1 }, tt)), ((wt .1 .0, (record { fits = LL.owed P.the-type P′.the-laws p _ is .1 .0 .1 }, tt)), tt)))) $
+        (init ! 15 refl (tt, (LL.lawful P.the-type P′.the-laws 𝓤 H A W .typed p _ is .0 .1, ((wt .1 .0, (record { fits = LL.owed P.the-type P′.the-laws p _ is .1 .0 .1 }, tt)), tt)))) $
         returns ! (look ! 15 refl) $ forget ! 3 refl $ forget ! 5 refl $ forget ! 7 refl $ forget ! 9 refl $ forget ! 11 refl $ forget ! 13 refl $ forget ! 15 refl $
         move ! (15 ∷ 16 ∷ []) $ free1 ! $ move ! (13 ∷ 14 ∷ []) $ free1 ! $ move ! (11 ∷ 12 ∷ []) $ free1 ! $ move ! (9 ∷ 10 ∷ []) $ free1 ! $
         move ! (7 ∷ 8 ∷ []) $ free1 ! $ move ! (5 ∷ 6 ∷ []) $ free1 ! $ move ! (3 ∷ 4 ∷ []) $ free1 ! $ free0 ! $ by ! (exits p e (LL.owed P.the-type P′.the-laws p _ is .1 .0 .1)))))))))))
