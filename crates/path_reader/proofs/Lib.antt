@@ -1,3 +1,4 @@
 pub mod Walk
 pub mod Params
 pub mod Held
+pub mod Order

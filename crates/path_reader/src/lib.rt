@@ -11,7 +11,7 @@ pub struct PathReader<'a> {
     pub at: usize,
 }
 
-// A component, and the reader after it. At the end the component is empty, and the reader stays there.
+// A component, and the reader after it. Where none is left, the component is empty and both stand at the end.
 pub struct Step<'a> {
     pub component: Part,
     pub reader: PathReader<'a>,
