@@ -25,8 +25,9 @@ use denote.Struct.Declared.{Declared}
 use denote.Struct.Laws as LL
 use denote.Struct.Rest.{own-shut}
 use denote.Struct.Values.{Values}
+use Rattle.hand_walks.proofs.Walk.{field-owned}
 use Rattle.path_reader.specs.{Reading.readerAt, declared.PathReader.PathReader}
-use Rattle.path_reader.proofs.{Walk.field-owned, Params.Units}
+use Rattle.path_reader.proofs.Params.{Units}
 use Rattle.path_reader.proofs.PathReader as T
 use Rattle.path_reader.proofs.PathReader.Laws as T′
 

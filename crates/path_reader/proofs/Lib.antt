@@ -1,4 +1,3 @@
-pub mod Walk
 pub mod Params
 pub mod Held
 pub mod Order

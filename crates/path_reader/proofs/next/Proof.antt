@@ -34,6 +34,7 @@ use denote.Triple.Table.{entered, cited}
 use denote.Triple.Walked.{says, Stays, stay-none, walkOf, goes-none, ends-at}
 use denote.Triple.Clauses.{lasts}
 use denote.Exit.{yes}
+use Rattle.hand_walks.proofs.Walk.{answered, met}
 use Rattle.components.specs.declared.Part.{Part}
 use Rattle.components.proofs.Part as P
 use Rattle.components.proofs.Part.Laws as P′
@@ -42,7 +43,7 @@ use Rattle.components.proofs.next_component.Symbol as component-def
 use Rattle.components.proofs.next_component.Symbol.{name as #components·next-component}
 use Rattle.components.proofs.next_component.Met as component-thm
 use Rattle.path_reader.specs.{Reading.{readerAt, componentOf}, declared.{PathReader.PathReader, Step.Step}}
-use Rattle.path_reader.proofs.{Walk.{answered, met}, Params.{passed, Units, asked}, Held.{Reader, Held, together, apart}}
+use Rattle.path_reader.proofs.{Params.{passed, Units, asked}, Held.{Reader, Held, together, apart}}
 use Rattle.path_reader.proofs.PathReader as T
 use Rattle.path_reader.proofs.PathReader.Laws as T′
 use Rattle.path_reader.proofs.Step as S

@@ -37,10 +37,11 @@ use denote.Triple.Spec.{Meets, tripleOf}
 use denote.Triple.Table.{entered, cited}
 use denote.Triple.Walked.{says, walkOf, ends-at}
 use denote.Triple.Clauses.{lasts}
+use Rattle.hand_walks.proofs.Walk.{answered, field-owned, met}
 use Rattle.components.specs.{Positions.nextComponent}
 use Rattle.components.proofs.Part.Laws as P′
 use Rattle.path_reader.specs.{Reading.{readerAt, stepOf}, declared.{PathReader.PathReader, Step.Step}}
-use Rattle.path_reader.proofs.{Walk.{answered, field-owned, met}, Params.{unitsVal, passed, Units, Owned, stays, goes, spelled, told, lent, asked}, Held.{Reader, Held}}
+use Rattle.path_reader.proofs.{Params.{unitsVal, passed, Units, Owned, stays, goes, spelled, told, lent, asked}, Held.{Reader, Held}}
 use Rattle.path_reader.proofs.PathReader as T
 use Rattle.path_reader.proofs.PathReader.Laws as T′
 use Rattle.path_reader.proofs.Step as S

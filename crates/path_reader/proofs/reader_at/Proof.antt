@@ -25,8 +25,9 @@ use denote.Triple.Entry.{onEntry}
 use denote.Triple.Spec.{Meets, tripleOf}
 use denote.Triple.Table.{entered}
 use denote.Triple.Walked.{says, walkOf, ends-at}
+use Rattle.hand_walks.proofs.Walk.{met}
 use Rattle.path_reader.specs.Reading.{readerAt}
-use Rattle.path_reader.proofs.{Walk.met, Params.{unitsVal, passed, Units, Owned, stays, goes, spelled, told, lent}, Held.together}
+use Rattle.path_reader.proofs.{Params.{unitsVal, passed, Units, Owned, stays, goes, spelled, told, lent}, Held.together}
 use Rattle.path_reader.proofs.PathReader.Laws as T′
 use Rattle.path_reader.proofs.reader_at.Key.{name as #path-reader·reader-at}
 use Rattle.path_reader.proofs.reader_at as reader-at
