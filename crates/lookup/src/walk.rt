@@ -4,9 +4,9 @@ use crate::Located;
 use crate::Walked;
 use crate::links::find_link;
 use components::Part;
-use components::next_component;
 use components::part_of;
 use components::units_before;
+use path_reader::read_component;
 use paths::LeafParts;
 use paths::ParsedPath;
 use records::FileNo;
@@ -34,7 +34,7 @@ fn walk_path(b: &[u8], path: &[u16], last: Part, fold: bool) -> Walked
     let mut dir = FileNo(0);
     let mut at = 0;
     'components: loop {
-        let part = next_component(parents, at);
+        let part = read_component(parents, at);
         let is_last = part.start == part.end;
         let name = if is_last { last } else { part };
         let found = find_link(b, dir, part_of(path, name), fold);

@@ -22,14 +22,14 @@ components-holds c = rw (c .units-before .ensures)
 -- the search: for the last component where none is left before it, else for the next
 found : (f : tie.After-find-link Inv-components μ-components) (is-last : Bool) →
     let n = f .before .before .before .before in
-    let part = n .next-component .result in
+    let part = n .read-component .result in
     let s = n .before .before .before .before .before .args in
     eqb (part .start) (part .end) ≡ is-last
     → f .find-link .result ≡ foundLink (findLink (namespace (decode (s .b .now) .volume)) (s .fold) (n .before .components .dir) (partOf (s .path .now) (cond is-last (s .last) part)))
 found f is-last e =
     let j = f .before .before in
     let n = j .before .before in
-    let part = n .next-component .result in
+    let part = n .read-component .result in
     let s = n .before .before .before .before .before .args in
     let sought : j .if1 .name ≡ cond (eqb (part .start) (part .end)) (s .last) part = ⊎-elim (λ w. rw (w .0 .taken) (w .1)) (λ w. rw (w .0 .left) (w .1)) (j .if1 .came) in
     rw e at (f .find-link .ensures
@@ -42,7 +42,7 @@ more : (e : tie.Else2 Inv-components μ-components) →
     let part = nextComponent (n .before .before .units-before .result .now) (n .before .components .at) in
     part .start ≡ part .end
     → ⊥
-more e z = eqb-false _ _ (e .if2 .left) (subst⁻¹ (λ (q : Part). q .start ≡ q .end) (e .before .before .before .before .before .next-component .ensures) z)
+more e z = eqb-false _ _ (e .if2 .left) (subst⁻¹ (λ (q : Part). q .start ≡ q .end) (e .before .before .before .before .before .read-component .ensures) z)
 
 -- that component is a part of the path as it is of what stands before the last
 found-next : (e : tie.Else2 Inv-components μ-components) →
@@ -56,7 +56,7 @@ found-next e =
     let n = e .before .before .before .before .before in
     let p = n .before in
     let parents = p .before .units-before in
-    let part = n .next-component in
+    let part = n .read-component in
     let s = p .before .before .before .before .args in
     let within = next-within (parents .result .now) (p .components .at) (more e) in
     let component =
@@ -78,7 +78,7 @@ to-last t =
     let n = t .before .before .before .before .before in
     let p = n .before in
     p .components .inv
-    ∙ walk-ends _ _ _ _ _ _ (subst (λ (q : Part). q .start ≡ q .end) (n .next-component .ensures) (eqb-true _ _ (t .if2 .taken)))
+    ∙ walk-ends _ _ _ _ _ _ (subst (λ (q : Part). q .start ≡ q .end) (n .read-component .ensures) (eqb-true _ _ (t .if2 .taken)))
     ∙ ap (lastStep (p .components .dir)) (sym (found (t .before) true (t .if2 .taken)))
 
 returns : tie.Need-returns Inv-components μ-components
@@ -96,7 +96,7 @@ components-less c =
     let order = next-order parents (p .components .at) in
     let within = next-within parents (p .components .at) (more e) in
     let ne : nextComponent parents (p .components .at) .start ≡ nextComponent parents (p .components .at) .end → ⊥ = more e in
-    omega (arith, ap (λ (q : Part). q .end) (n .next-component .ensures))
+    omega (arith, ap (λ (q : Part). q .end) (n .read-component .ensures))
 
 components-again : tie.Need-components-again Inv-components μ-components
 components-again c =
@@ -111,7 +111,7 @@ components-again c =
     let parents = p .before .units-before .result .now in
     p .components .inv
     ∙ walk-goes-on _ _ _ _ _ _ (more e) _ (step-found _ _ (found-next e ∙ l .found2 .given .1) (f .read-link-file .ensures) (k .read-file-type .ensures) (sym (not-false _ (c .if3 .left)) ∙ d .is-directory .ensures))
-    ∙ ap (λ (q : Part). walkedFrom (namespace (decode (s .b .now) .volume)) (s .fold) (f .read-link-file .result) (components (drop (q .end) parents)) (partOf (s .path .now) (s .last))) (sym (n .next-component .ensures))
+    ∙ ap (λ (q : Part). walkedFrom (namespace (decode (s .b .now) .volume)) (s .fold) (f .read-link-file .result) (components (drop (q .end) parents)) (partOf (s .path .now) (s .last))) (sym (n .read-component .ensures))
 
 returns-2 : tie.Need-returns-2 Inv-components μ-components
 unfolding lastStep
