@@ -7,8 +7,8 @@ leads up zero n = eqb n 0
 leads up (suc steps) n = elim (eqb n 0) [ true ↦ true | false ↦ leads up steps (getD up n n) ]
 
 -- the links of the file at a number: none for the root, one for every other, and the root above it; asked of a used file
-unfoldable pub linkedAt : List ℕ → List ℕ → ℕ → Bool
-linkedAt counts up n = eqb (getD counts n 0) (cond (eqb n 0) 0 1) && leads up fileSlots n
+unfoldable pub linkedAt : ℕ → List ℕ → ℕ → Bool
+linkedAt count up n = eqb count (cond (eqb n 0) 0 1) && leads up fileSlots n
 
 unfoldable pub fileLinked : List ℕ → List ℕ → ℕ → File → Bool
-fileLinked counts up n f = not (fileUsed f) || linkedAt counts up n
+fileLinked counts up n f = not (fileUsed f) || linkedAt (getD counts n 0) up n

@@ -172,22 +172,21 @@ fn links_wanted(n: usize) -> u16
     if n == 0 { 0 } else { 1 }
 }
 
-// The file at a number has the links that it should, and the root is above it.
-fn linked_at(counts: &[u16], up: &[u16], n: usize) -> bool
-    requires { ⌜ n < length (now counts) ⌝ }
-    ensures { λ r. ⌜ r ≡ linkedAt (now (counts .entry)) (now (up .entry)) n ⌝ }
+// The file at a number has the links that it should, by how many were counted, and the root is above it.
+fn linked_at(count: u16, up: &[u16], n: usize) -> bool
+    ensures { λ r. ⌜ r ≡ linkedAt count (now (up .entry)) n ⌝ }
 {
-    counts[n] == links_wanted(n) && leads_to_root(up, n)
+    count == links_wanted(n) && leads_to_root(up, n)
 }
 
 // Each used file is linked.
-fn files_linked(b: &[u8], counts: &[u16], up: &[u16]) -> bool
-    requires { ⌜ (length (now b) ≡ tablesSize) × (length (now counts) ≡ fileSlots) ⌝ }
+fn files_linked(b: &[u8], counts: &[u16; FILE_SLOTS], up: &[u16]) -> bool
+    requires { ⌜ length (now b) ≡ tablesSize ⌝ }
     ensures { λ r. ⌜ r ≡ allFrom (fileLinked (now (counts .entry)) (now (up .entry))) 0 (decode (now (b .entry)) .volume .files) ⌝ }
 {
     let mut i: usize = 0;
     while i < FILE_SLOTS {
-        if is_used(read_file_type(b, FileNo(i as u16))) && !linked_at(counts, up, i) {
+        if is_used(read_file_type(b, FileNo(i as u16))) && !linked_at(counts[i], up, i) {
             return false;
         }
         i += 1;

@@ -1,5 +1,6 @@
 -- Format of lent bytes by its cases: bytes that are too few or too many, masks that are not valid, and neither.
-use Rattle.base.{specs.Base.{ℕ, _≡_, Bool, true, false, List, length, accounts, eqb, _>>_, refuseIf, concluded, done, refusedReply, FileCorruptError, InvalidParameter}, proofs.Laws.{eq-eqb, ne-eqb, eqb-true, and-left}}
+use Rattle.base.{specs.Base.{ℕ, _-_, _≡_, Bool, true, false, List, length, take, padded, accounts, eqb, _>>_, refuseIf, concluded, done, refusedReply, FileCorruptError, InvalidParameter}, proofs.Laws.{arith, eq-eqb, ne-eqb, eqb-true, and-left, take-all}}
+use mathlib.Core.List.{append-nil}
 use Rattle.consistency.specs.Relations.{validMasks}
 use Rattle.layout.specs.Layout.{tablesSize, encode}
 use Rattle.format.specs.{Format.{freshTables, checkedMasks}, Bytes.formatBytes}
@@ -8,6 +9,13 @@ use Rattle.format.specs.{Format.{freshTables, checkedMasks}, Bytes.forma
 pub valid-count : (masks : List ℕ) → validMasks masks ≡ true → length masks ≡ accounts
 unfolding validMasks
 valid-count masks v = eqb-true (length masks) accounts (and-left (eqb (length masks) accounts) _ v)
+
+-- and are copied whole
+pub masks-whole : (masks : List ℕ) → length masks ≡ accounts → take accounts (padded accounts masks) ≡ masks
+unfolding padded
+masks-whole masks e =
+    let none : accounts - length masks ≡ 0 = omega arith in
+    rw (none, append-nil) (take-all accounts masks (omega arith))
 
 module _ (bs masks : List ℕ) (readOnly : Bool) where
   pub other-length : (length bs ≡ tablesSize → ⊥)

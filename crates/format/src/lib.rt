@@ -19,7 +19,8 @@ use records_streams::write_stream;
 use records_volume::write_mark;
 use records_volume::write_next;
 ghost use mathlib.Core.Path.{_≡_};
-ghost use lib.ListN.{length, replicate};
+ghost use lib.ListN.{length, getD, take, replicate};
+ghost use Rattle.lists.specs.Lists.{padded};
 ghost use Rattle.records.specs.Sizes.{accounts};
 ghost use Rattle.records.specs.State.{Answers};
 ghost use Rattle.layout.specs.Layout.{tablesSize, encode};
@@ -37,15 +38,25 @@ fn clear(b: &mut [u8])
     }
 }
 
-// The masks by value, as a file holds them.
+// The mask of an account, zero past the last one.
+fn mask_at(masks: &[u32], account: usize) -> u32
+    ensures { λ r. ⌜ r ≡ getD (now (masks .entry)) account 0 ⌝ }
+{
+    if account < masks.len() {
+        masks[account]
+    } else {
+        0
+    }
+}
+
+// The masks by value, as a file holds them: one for each account.
 fn copied(masks: &[u32]) -> [u32; ACCOUNTS]
-    requires { ⌜ length (now masks) ≡ accounts ⌝ }
-    ensures { λ r. ⌜ r ≡ now (masks .entry) ⌝ }
+    ensures { λ r. ⌜ r ≡ take accounts (padded accounts (now (masks .entry))) ⌝ }
 {
     let mut copy = [0u32; ACCOUNTS];
     let mut account = 0;
     while account < ACCOUNTS {
-        copy[account] = masks[account];
+        copy[account] = mask_at(masks, account);
         account += 1;
     }
     copy

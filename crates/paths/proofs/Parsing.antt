@@ -3,7 +3,7 @@ use Rattle.base.{specs.Base.{ℕ, suc, _-_, _≤_, _<_, _≡_, Bool, true, fals
 use lib.Seq.{slice-empty}
 use Rattle.components.{specs.{Components.split, Positions.{leading, noSign, partOf, parentsOf, Within}, declared.Part.Part}, proofs.{Splitting.{split-first, split-one, split-more}, Places.{Searched, upTo, past, split-last, split-found, part-some, first-within}}}
 use Rattle.units.specs.Units.{colon, dataType, upper, folded, equalUnits}
-use Rattle.paths.specs.{Paths.{Leaf, leafOf, endsIn}, Positions.{asLeaf, asPath, LeafWithin, Parsed, named}, declared.{LeafParts.LeafParts, ParsedPath.{ParsedPath, the-variants.{Invalid, Named}}}}
+use Rattle.paths.specs.{Paths.{Leaf, leafOf, endsIn}, Positions.{asLeaf, asPath, LeafWithin, ParsedParts, named}, declared.{LeafParts.LeafParts, ParsedPath.{ParsedPath, the-variants.{Invalid, Named}}}}
 
 -- the last unit
 
@@ -55,49 +55,57 @@ leaf-type f s t = go (ltb (leading (noSign colon) t) (length t)) refl
     go true e = rw (split-more colon t (ltb-true m (length t) e), split-first colon (drop (suc m) t)) (longer (equalUnits true t dataType) refl (ltb-true m (length t) e))
     go false e = rw (split-one colon t (ltb-false m (length t) e))
 
--- the last component by the colons found
+-- the last component by the colons found; what holds of its places may ask for more
 
-refused : (path : List ℕ) (parents : List (List ℕ)) {l : Option Leaf} → l ≡ none → Parsed path Invalid (named parents l)
+refused : (inside : Type 0) (path : List ℕ) (parents : List (List ℕ)) {l : Option Leaf} → l ≡ none → ParsedParts inside path Invalid (named parents l)
 unfolding asPath named
-refused path parents e = record { is = rw e; places = tt }
+refused inside path parents e = record { is = rw e; places = λ h. tt }
 
-found : (path : List ℕ) (parts : LeafParts) {l : Option Leaf} → l ≡ some (asLeaf path parts) → LeafWithin path parts → Parsed path (Named parts) (named (parentsOf path (parts .file)) l)
+found : (inside : Type 0) (path : List ℕ) (parts : LeafParts) {l : Option Leaf} → l ≡ some (asLeaf path parts) → (inside → LeafWithin path parts) → ParsedParts inside path (Named parts) (named (parentsOf path (parts .file)) l)
 unfolding asPath named
-found path parts e within = record { is = rw e; places = within }
+found inside path parts e within = record { is = rw e; places = within }
 
 module _ {path : List ℕ} {part : Part} {units : List ℕ} {k : ℕ} (searched : Searched colon path part units k) where
   -- without a colon
-  pub leaf-file : Within path part → length units ≤ k → Parsed path (Named (record { file = upTo part k; stream = record { start = k; end = k }; colon = false })) (named (parentsOf path part) (leafOf (split colon (partOf path part))))
+  pub leaf-file : length units ≤ k → ParsedParts (Within path part) path (Named (record { file = upTo part k; stream = record { start = k; end = k }; colon = false })) (named (parentsOf path part) (leafOf (split colon (partOf path part))))
   unfolding leafOf asLeaf partOf
-  leaf-file within h =
+  leaf-file h =
+      found (Within path part) path _ (rw (split-last searched h, slice-empty k path))
+      (λ within.
       let file = first-within searched within in
-      found path _ (rw (split-last searched h, slice-empty k path))
-      (record { file = file; stream = record { ordered = omega arith; inside = file .inside } })
+      record { file = file; stream = record { ordered = omega arith; inside = file .inside } })
 
   -- after the file's name
   module _ (file : Part) where
     abbrev streamOf : LeafParts
     streamOf = record { file = file; stream = upTo part k; colon = true }
 
-    abbrev Stream : ParsedPath → Type 0
-    Stream r = Parsed path r (named (parentsOf path file) (leafOf (partOf path file ∷ split colon (partOf path part))))
+    abbrev Inside : Type 0
+    Inside = Within path file × Within path part
 
-    pub stream-typed : k < length units → equalUnits true (partOf path (past part k)) dataType ≡ true → LeafWithin path streamOf → Stream (Named streamOf)
+    abbrev Stream : ParsedPath → Type 0
+    Stream r = ParsedParts Inside path r (named (parentsOf path file) (leafOf (partOf path file ∷ split colon (partOf path part))))
+
+    within : Inside → LeafWithin path streamOf
+    within h = record { file = h .0; stream = first-within searched (h .1) }
+
+    pub stream-typed : k < length units → equalUnits true (partOf path (past part k)) dataType ≡ true → Stream (Named streamOf)
     unfolding asLeaf
     stream-typed h t =
-        found path streamOf
+        found Inside path streamOf
         (rw (split-found searched h, leaf-type (partOf path file) (partOf path (upTo part k)) (partOf path (past part k)), t))
+        within
 
     pub stream-untyped : k < length units → equalUnits true (partOf path (past part k)) dataType ≡ false → Stream Invalid
     stream-untyped h t =
-        refused path (parentsOf path file)
+        refused Inside path (parentsOf path file)
         (rw (split-found searched h, leaf-type (partOf path file) (partOf path (upTo part k)) (partOf path (past part k)), t))
 
     pub stream-empty : length units ≤ k → part .start ≡ k → Stream Invalid
     unfolding leafOf isEmpty partOf
     stream-empty h same =
-        refused path (parentsOf path file) (rw (split-last searched h, same, slice-empty k path))
+        refused Inside path (parentsOf path file) (rw (split-last searched h, same, slice-empty k path))
 
-    pub stream-only : length units ≤ k → (part .start ≡ k → ⊥) → LeafWithin path streamOf → Stream (Named streamOf)
+    pub stream-only : length units ≤ k → (part .start ≡ k → ⊥) → Stream (Named streamOf)
     unfolding leafOf asLeaf
-    stream-only h ne = found path streamOf (rw (split-last searched h, part-some searched ne))
+    stream-only h ne = found Inside path streamOf (rw (split-last searched h, part-some searched ne)) within

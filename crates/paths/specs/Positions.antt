@@ -27,6 +27,12 @@ pub record Parsed (path : List ℕ) (r : ParsedPath) (p : Checked Path) : Type 0
   pub is : asPath path r ≡ p
   pub places : PlacesWithin path r
 
+-- parts of a path taken apart: whatever they are it is the definition's, and its places are places of the path where
+-- theirs are
+pub record ParsedParts (inside : Type 0) (path : List ℕ) (r : ParsedPath) (p : Checked Path) : Type 0 where
+  pub is : asPath path r ≡ p
+  pub places : inside → PlacesWithin path r
+
 -- a last component after the components given, before its names are judged and after
 unfoldable pub named : List (List ℕ) → Option Leaf → Checked Path
 named parents none = refuse ObjectNameInvalid

@@ -15,7 +15,7 @@ ghost use Rattle.units.specs.Units.{backslash, colon, dataType, equalUnits};
 ghost use Rattle.components.specs.Components.{components, split};
 ghost use Rattle.components.specs.Positions.{partOf, parentsOf, Within};
 ghost use Rattle.paths.specs.Paths.{leafOf, endsIn, validLeaf, parseComponents, parsePath};
-ghost use Rattle.paths.specs.Positions.{asLeaf, named, checked, Parsed};
+ghost use Rattle.paths.specs.Positions.{asLeaf, named, checked, Parsed, ParsedParts};
 
 const BACKSLASH: u16 = 0x5C;
 
@@ -45,8 +45,7 @@ fn is_data_type(units: &[u16]) -> bool
 
 // The last component after its file name: STREAM or STREAM:TYPE.
 fn stream_parts(path: &[u16], file: Part, rest: Part) -> ParsedPath
-    requires { ⌜ Within (now path) file × Within (now path) rest ⌝ }
-    ensures { λ r. ⌜ Parsed (now (path .entry)) r (named (parentsOf (now (path .entry)) file) (leafOf (partOf (now (path .entry)) file ∷ split colon (partOf (now (path .entry)) rest)))) ⌝ }
+    ensures { λ r. ⌜ ParsedParts (Within (now (path .entry)) file × Within (now (path .entry)) rest) (now (path .entry)) r (named (parentsOf (now (path .entry)) file) (leafOf (partOf (now (path .entry)) file ∷ split colon (partOf (now (path .entry)) rest)))) ⌝ }
 {
     let start = rest.start;
     let end = rest.end;
@@ -79,8 +78,7 @@ fn stream_parts(path: &[u16], file: Part, rest: Part) -> ParsedPath
 
 // The last component by its colons: FILE, FILE:STREAM or FILE:STREAM:TYPE.
 fn leaf_parts(path: &[u16], component: Part) -> ParsedPath
-    requires { ⌜ Within (now path) component ⌝ }
-    ensures { λ r. ⌜ Parsed (now (path .entry)) r (named (parentsOf (now (path .entry)) component) (leafOf (split colon (partOf (now (path .entry)) component)))) ⌝ }
+    ensures { λ r. ⌜ ParsedParts (Within (now (path .entry)) component) (now (path .entry)) r (named (parentsOf (now (path .entry)) component) (leafOf (split colon (partOf (now (path .entry)) component)))) ⌝ }
 {
     let start = component.start;
     let end = component.end;
@@ -125,8 +123,7 @@ fn valid_leaf(path: &[u16], leaf: LeafParts, wants_directory: bool) -> bool
 
 // The last component, valid.
 fn checked_leaf(path: &[u16], component: Part, wants_directory: bool) -> ParsedPath
-    requires { ⌜ Within (now path) component ⌝ }
-    ensures { λ r. ⌜ Parsed (now (path .entry)) r (checked «wants_directory» (parentsOf (now (path .entry)) component) (leafOf (split colon (partOf (now (path .entry)) component)))) ⌝ }
+    ensures { λ r. ⌜ ParsedParts (Within (now (path .entry)) component) (now (path .entry)) r (checked «wants_directory» (parentsOf (now (path .entry)) component) (leafOf (split colon (partOf (now (path .entry)) component)))) ⌝ }
 {
     let parsed = leaf_parts(path, component);
     let ParsedPath::Named(leaf) = parsed else {

@@ -1,5 +1,5 @@
 -- What is printed of a reply: the status in eight hexadecimal digits, the action's digit or `-`, and the handle.
-use Rattle.base.specs.Base.{ℕ, zero, suc, _+_, _≡_, cond, List, [], _∷_, _++_, Option, none, some, length, take, ltb, Seen}
+use Rattle.base.specs.Base.{ℕ, zero, suc, _+_, _≤_, _≡_, cond, List, [], _∷_, _++_, Option, none, some, length, take, ltb, Seen}
 use Prim.Native.Nat.{_/_, _%_}
 use Rattle.script_lines.specs.Lines.{space}
 
@@ -51,7 +51,7 @@ printed s =
 abbrev pub unknownLine : List ℕ
 unknownLine = 0x3F ∷ lineEnd ∷ []
 
--- what stands before a place, and a text after it
+-- what stands before a place, and a text after it up to its end, where there is room for it
 pub record Appended (before : List ℕ) (at : ℕ) (text : List ℕ) (end : ℕ) (after : List ℕ) : Type 0 where
-  pub is : take end after ≡ take at before ++ text
+  pub is : end ≤ length before → take end after ≡ take at before ++ text
   pub kept : length after ≡ length before

@@ -6,9 +6,9 @@ use records::Outcome;
 use records::Request;
 use reply_numbers::handle_of;
 use reply_numbers::status_of;
-ghost use Prim.Native.Nat.{_+_, _*_, _≤_, _<_};
+ghost use Prim.Native.Nat.{_+_, _*_, _%_, _≤_, _<_};
 ghost use mathlib.Core.Path.{_≡_};
-ghost use mathlib.Core.Bool.{_&&_};
+ghost use mathlib.Core.Bool.{cond, _&&_};
 ghost use lib.Dec.{leb};
 ghost use lib.ListN.{length, take, drop};
 ghost use Rattle.lists.specs.Lists.{all};
@@ -251,12 +251,18 @@ fn action_byte(a: Answer) -> u8
     }
 }
 
-// 0 to 9, then A to F.
-fn digit_byte(n: u8) -> u8
-    requires { ⌜ n < 16 ⌝ }
-    ensures { λ r. ⌜ r ≡ digit n ⌝ }
+// 0 to 9, then A to F, of a number's last hexadecimal digit.
+fn digit_byte(n: u64) -> u8
+    ensures { λ r. ⌜ r ≡ digit (n % 16) ⌝ }
 {
-    if n < 10 { 0x30 + n } else { 0x37 + n }
+    let d = (n % 16) as u8;
+    if d < 10 { 0x30 + d } else { 0x37 + d }
+}
+
+fn base_of(hex: bool) -> u64
+    ensures { λ r. ⌜ r ≡ cond hex 16 10 ⌝ }
+{
+    if hex { 16 } else { 10 }
 }
 
 // How many decimal digits a number has. 64 bits have at most 20.
@@ -272,16 +278,23 @@ fn decimal_width(number: u64) -> usize
     width
 }
 
-// A number's digits after the bytes before a place.
-fn put_digits(out: &mut [u8; 32], at: usize, base: u64, width: usize, number: u64)
-    requires { ⌜ (length (now out) ≡ 32) × (at + width ≤ 32) × (2 ≤ base) × (base ≤ 16) ⌝ }
-    ensures { λ _. ⌜ Appended (now (out .entry)) at (digits base width number) (at + width) (now (out .exit)) ⌝ }
+// A number's digits after the bytes before a place, where there is room for them.
+fn put_digits(out: &mut [u8], at: usize, hex: bool, width: usize, number: u64)
+    ensures { λ _. ⌜ Appended (now (out .entry)) at (digits (cond hex 16 10) width number) (at + width) (now (out .exit)) ⌝ }
 {
+    let count = out.len();
+    if count < width {
+        return;
+    }
+    if count - width < at {
+        return;
+    }
+    let base = base_of(hex);
     let mut left = number;
     let mut i = width;
     while 0 < i {
         i -= 1;
-        out[at + i] = digit_byte((left % base) as u8);
+        out[at + i] = digit_byte(left % base);
         left = left / base;
     }
 }
@@ -293,11 +306,11 @@ pub fn print(a: Answer) -> Printed
     let handle = handle_of(a);
     let width = decimal_width(handle);
     let mut bytes = [0u8; 32];
-    put_digits(&mut bytes, 0, 16, 8, status_of(a) as u64);
+    put_digits(&mut bytes, 0, true, 8, status_of(a) as u64);
     bytes[8] = SPACE;
     bytes[9] = action_byte(a);
     bytes[10] = SPACE;
-    put_digits(&mut bytes, 11, 10, width, handle);
+    put_digits(&mut bytes, 11, false, width, handle);
     bytes[11 + width] = LINE_END;
     Printed {
         bytes,

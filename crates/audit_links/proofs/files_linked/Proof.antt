@@ -16,37 +16,37 @@ abbrev μ-loop : tie.MeasureT-loop
 -- whether the file at place i is used, as its type says
 used : (c : tie.After-is-used Inv-loop μ-loop) →
     let l = c .before .before .before in
-    c .is-used .result ≡ fileUsed (getD (decode (l .before .before .before .before .args .b .now) .volume .files) (l .loop .i) zeroFile)
+    c .is-used .result ≡ fileUsed (getD (decode (l .before .before .before .args .b .now) .volume .files) (l .loop .i) zeroFile)
 unfolding fileAt fileUsed
 used c = c .is-used .ensures ∙ ap isUsed (c .before .read-file-type .ensures)
 
 returns : tie.Need-returns Inv-loop μ-loop
 unfolding fileLinked
 returns c =
-    let u = c .before .before .before in
+    let u = c .before .before .before .before in
     let l = u .before .before .before in
-    let a = l .before .before .before .before .args in
+    let a = l .before .before .before .args in
     let h = files-count (a .b .now) in
     sym
     (l .loop .inv
     ∙ numbered-stops (fileLinked (a .counts .now) (a .up .now)) (decode (a .b .now) .volume .files) (l .loop .i) zeroFile (omega arith)
-    (rw (← used u, c .before .before .if1 .taken, ← c .before .linked-at .ensures) (not-true (c .before .linked-at .result) (c .if2 .taken))))
+    (rw (← used u, c .before .before .before .if1 .taken, ← c .before .linked-at .ensures) (not-true (c .before .linked-at .result) (c .if2 .taken))))
 
 loop-again : tie.Need-loop-again Inv-loop μ-loop
 unfolding fileLinked
 loop-again c =
     let u = c .before in
     let l = u .before .before .before in
-    let a = l .before .before .before .before .args in
+    let a = l .before .before .before .args in
     let h = files-count (a .b .now) in
     l .loop .inv
     ∙ numbered-next (fileLinked (a .counts .now) (a .up .now)) (decode (a .b .now) .volume .files) (l .loop .i) zeroFile (omega arith)
-    (⊎-elim (λ w. rw (← used u, w .0 .taken, ← w .1 .ensures) (not-false (w .1 .result) (w .2 .left))) (λ w. rw (← used u, w .left)) (c .if1 .came))
+    (⊎-elim (λ w. rw (← used u, w .0 .taken, ← w .2 .ensures) (not-false (w .2 .result) (w .3 .left))) (λ w. rw (← used u, w .left)) (c .if1 .came))
 
 returns-2 : tie.Need-returns-2 Inv-loop μ-loop
 returns-2 c =
     let l = c .before in
-    let a = l .before .before .before .before .args in
+    let a = l .before .before .before .args in
     let h = files-count (a .b .now) in
     sym
     (l .loop .inv
@@ -62,6 +62,8 @@ files-linked-spec =
     (λ c. search needs)
     (λ c κs. search needs)
     (λ c κs. search needs)
+    (λ c. search needs)
+    (λ c. search needs)
     (λ c κs. search needs)
     returns
     (λ c. search needs)

@@ -135,6 +135,5 @@ links-consistent-spec =
     (λ c κs. search needs)
     returns-2
     (λ c. search needs)
-    (λ c. search needs)
     (λ c κs. search needs)
     returns-3)

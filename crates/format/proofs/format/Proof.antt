@@ -1,7 +1,7 @@
 -- `format::format` meets its contract: the length decides, then the masks, and then the bytes are those of fresh tables.
 use Rattle.base.{specs.Base.{ℕ, List}, proofs.Laws.{refl, sym, _∙_, ap, arith, needs, not-true, not-false}}
 use Rattle.layout.specs.Layout.{encode}
-use Rattle.format.proofs.{Bytes.{valid-count, other-length, invalid-masks, formatted}, format.Statement.statement}
+use Rattle.format.proofs.{Bytes.{valid-count, masks-whole, other-length, invalid-masks, formatted}, format.Statement.statement}
 use Rattle.format.specs.Format.{freshTables}
 use Rattle.format.proofs.format.Tie as tie
 
@@ -18,21 +18,17 @@ returns-2 c =
     (sym (m .valid-masks .ensures) ∙ not-true _ (c .if2 .taken)))
     (record { reply = refl; state = refl })
 
-copied-requires : tie.Need-copied-requires
-copied-requires c κs =
-    let m = c .before .before in
-    valid-count _ (sym (m .valid-masks .ensures) ∙ not-false _ (c .before .if2 .left))
-
 returns-3 : tie.Need-returns-3
 returns-3 c =
     let w = c .before .before in
     let m = w .before .before .before .before in
     let a = m .before .before .before .before .args in
-    rw (formatted (a .b .now) (a .masks .now) (a .read-only) (omega arith)
-    (sym (m .valid-masks .ensures) ∙ not-false _ (w .before .before .before .if2 .left)))
+    let valid = sym (m .valid-masks .ensures) ∙ not-false _ (w .before .before .before .if2 .left) in
+    let same = w .before .copied .ensures ∙ masks-whole (a .masks .now) (valid-count (a .masks .now) valid) in
+    rw (formatted (a .b .now) (a .masks .now) (a .read-only) (omega arith) valid)
     (record {
       reply = refl;
-      state = w .write-fresh .ensures ∙ ap (λ (ms : List ℕ). encode (freshTables ms (a .read-only))) (w .before .copied .ensures);
+      state = w .write-fresh .ensures ∙ ap (λ (ms : List ℕ). encode (freshTables ms (a .read-only))) same;
     })
 
 pub format-spec : {M : Type 1} → statement M
@@ -42,7 +38,7 @@ format-spec =
     returns
     (λ c κs. search needs)
     returns-2
-    copied-requires
+    (λ c κs. search needs)
     (λ c κs. search needs)
     (λ c. search needs)
     returns-3)

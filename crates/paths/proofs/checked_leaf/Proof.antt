@@ -1,10 +1,10 @@
 -- `paths::checked_leaf` meets its contract: a component that its colons do not refuse is judged by its names.
 use Rattle.base.{specs.Base.{ℕ, Bool, true, false, cond, List, _⊎_, Option, _≡_, refuse, ObjectNameInvalid}, proofs.Laws.{⊎-elim, sym, _∙_, arith, needs}}
 use denote.Enum.Declared.{tagOf}
-use Rattle.components.specs.{Components.split, Positions.{partOf, parentsOf}}
+use Rattle.components.specs.{Components.split, Positions.{partOf, parentsOf, Within}}
 use Rattle.units.specs.Units.{colon}
 use Rattle.paths.proofs.{Judging.{checked-none, never-root, checked-some}, ParsedPath.the-type, checked_leaf.Statement.statement}
-use Rattle.paths.specs.{Paths.{Leaf, leafOf}, Positions.{asPath, Parsed, named, checked}, declared.ParsedPath.{ParsedPath, the-variants.{Invalid, Root, Named}}}
+use Rattle.paths.specs.{Paths.{Leaf, leafOf}, Positions.{asPath, ParsedParts, named, checked}, declared.ParsedPath.{ParsedPath, the-variants.{Invalid, Root, Named}}}
 use Rattle.paths.proofs.checked_leaf.Tie as tie
 
 -- the last component was refused by its colons; it is never the root
@@ -26,13 +26,13 @@ returns c =
     let s = c .before .before .before in
     record {
       is = other (s .args .path .now) (s .args .wants-directory) (parents s) (split-leaf s) (c .before .leaf-parts .result) (c .match .keys2) (c .before .leaf-parts .ensures .is);
-      places = tt;
+      places = λ within. tt;
     }
 
 -- the component found
 found : (c : tie.After-parsed) →
     let s = c .before .before .before .before in
-    Parsed (s .args .path .now) (Named (c .parsed .given .0 .0)) (named (parents s) (split-leaf s))
+    ParsedParts (Within (s .args .path .now) (s .args .component)) (s .args .path .now) (Named (c .parsed .given .0 .0)) (named (parents s) (split-leaf s))
 found c = rw (c .parsed .given .1) at (c .before .before .leaf-parts .ensures)
 
 judged : (c : tie.After-valid-leaf) (b : Bool) → c .valid-leaf .result ≡ b →
@@ -50,7 +50,7 @@ returns-2 c = record { is = judged (c .before) true (c .if1 .taken); places = fo
 
 returns-3 : tie.Need-returns-3
 unfolding asPath
-returns-3 c = record { is = judged (c .before) false (c .if1 .left); places = tt }
+returns-3 c = record { is = judged (c .before) false (c .if1 .left); places = λ within. tt }
 
 pub checked-leaf-spec : {M : Type 1} → statement M
 checked-leaf-spec =

@@ -43,7 +43,7 @@ returns-2 c =
       is =
           c .checked-leaf .ensures .is
           ∙ at-last (s .wants-directory) (s .path .now) (l .loop .part) (l .loop .inv) (subst Empty (n .next-component2 .ensures) (c .before .if2 .taken));
-      places = c .checked-leaf .ensures .places;
+      places = c .checked-leaf .ensures .places (l .loop .inv .within);
     }
 
 -- where another component follows, and the present one's name was judged
@@ -97,7 +97,7 @@ parse-components-spec =
     returns
     loop-holds
     (λ c κs. search needs)
-    (λ c κs. c .before .before .before .loop .inv .within)
+    (λ c κs. search needs)
     returns-2
     (λ c κs. search needs)
     (λ c κs. search needs)

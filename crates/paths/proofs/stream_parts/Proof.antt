@@ -1,9 +1,8 @@
 -- `paths::stream_parts` meets its contract: a type follows the second colon, or the stream's name ends the component.
 use Rattle.base.{specs.Base.{_≡_, true}, proofs.Laws.{sym, _∙_, needs}}
-use Rattle.components.{specs.Positions.partOf, proofs.Places.{Searched, upTo, past, first-within}}
+use Rattle.components.{specs.Positions.partOf, proofs.Places.{Searched, past}}
 use Rattle.units.specs.Units.{colon, dataType, equalUnits}
 use Rattle.paths.proofs.{Parsing.{stream-typed, stream-untyped, stream-empty, stream-only}, stream_parts.Statement.statement}
-use Rattle.paths.specs.Positions.{LeafWithin}
 use Rattle.paths.proofs.stream_parts.Tie as tie
 
 module _ (c : tie.After-find-sign) where
@@ -13,9 +12,6 @@ module _ (c : tie.After-find-sign) where
   searched : Searched colon (start .args .path .now) (start .args .rest) (c .before .units-before .result .now) (c .find-sign .result)
   searched = record { before = c .before .units-before .ensures; found = c .find-sign .ensures }
 
-  within : LeafWithin (start .args .path .now) (record { file = start .args .file; stream = upTo (start .args .rest) (c .find-sign .result); colon = true })
-  within = record { file = start .pre .0; stream = first-within searched (start .pre .1) }
-
 -- what is found after the second colon
 typed : (c : tie.After-is-data-type) → let f = c .before .before .before in equalUnits true (partOf (start f .args .path .now) (past (start f .args .rest) (f .find-sign .result))) dataType ≡ c .is-data-type .result
 typed c = rw (← c .before .part-of .ensures) (sym (c .is-data-type .ensures))
@@ -23,7 +19,7 @@ typed c = rw (← c .before .part-of .ensures) (sym (c .is-data-type .ensures))
 returns : tie.Need-returns
 returns c =
     let f = c .before .before .before .before in
-    stream-typed (searched f) (start f .args .file) (c .before .before .before .if1 .taken) (typed (c .before) ∙ c .if2 .taken) (within f)
+    stream-typed (searched f) (start f .args .file) (c .before .before .before .if1 .taken) (typed (c .before) ∙ c .if2 .taken)
 
 returns-2 : tie.Need-returns-2
 returns-2 c =
@@ -38,7 +34,7 @@ returns-3 c =
 returns-4 : tie.Need-returns-4
 returns-4 c =
     let f = c .before .before in
-    stream-only (searched f) (start f .args .file) (c .before .if1 .left) (c .if3 .left) (within f)
+    stream-only (searched f) (start f .args .file) (c .before .if1 .left) (c .if3 .left)
 
 pub stream-parts-spec : {M : Type 1} → statement M
 stream-parts-spec =

@@ -1,5 +1,5 @@
 -- `script_lines::digit_byte` meets its contract.
-use Rattle.base.proofs.Laws.{needs}
+use Rattle.base.proofs.Laws.{arith, needs}
 use borrow.Author.Tests.{lt-ltb, le-ltb}
 use Rattle.script_lines.proofs.digit_byte.Statement.{statement}
 use Rattle.script_lines.specs.Print.{digit}
@@ -10,7 +10,8 @@ unfolding digit
 digit-byte-spec =
     tie.close
     (tie.spec
-    (λ c. search needs)
-    (λ c. search needs)
+    (λ c. omega arith)
+    (λ c. omega arith)
+    (λ c. omega arith)
     (λ c. rw (lt-ltb _ 10 (c .if1 .taken)))
     (λ c. rw (le-ltb _ 10 (c .if1 .left))))

@@ -9,27 +9,25 @@ use Rattle.script_lines.proofs.print.Tie as tie
 width : (c : tie.After-decimal-width) → c .decimal-width .result ≤ 20
 width c = omega (arith, c .decimal-width .ensures, decimal-bound (c .before .handle-of .result))
 
-put-digits-requires-2 : tie.Need-put-digits-requires-2
-put-digits-requires-2 c κs =
-    let p = c .before .before in
-    let k = p .put-digits .ensures .kept in
-    let w = width (p .before .before .before) in
-    (simp length-set k, omega arith, omega arith, omega arith)
-
-long : (c : tie.After-put-digits2) → length (c .put-digits2 .last .0) ≡ 32
-long c = c .put-digits2 .ensures .kept ∙ simp length-set (c .before .before .before .put-digits .ensures .kept)
+-- the bytes before the handle's digits
+long : (c : tie.After-put-digits2) →
+    let p = c .before .before .before .before in
+    length (set (set (set (p .put-digits .last .0) 8 space) 9 (c .before .before .action-of .result)) 10 space) ≡ 32
+long c = simp length-set (c .before .before .before .before .put-digits .ensures .kept)
 
 returns : tie.Need-returns
 returns c =
-    let o = c .before .before in
-    let p = o .before in
+    let q = c .before in
+    let o = q .before .before in
+    let p = o .before .before in
     let t = p .before in
     let w = t .before .before in
     let h = w .before in
     let n = w .decimal-width .result in
     let k = width w in
-    let b = c .put-digits2 .last .0 in
-    let l = long c in
+    let b = q .put-digits2 .last .0 in
+    let l = long q in
+    let e = q .put-digits2 .ensures .kept ∙ l in
     let status = t .status-of .result in
     let action = o .action-byte .result in
     let handle = h .handle-of .result in
@@ -38,13 +36,13 @@ returns c =
       is =
           ap (λ (m : ℕ). take m (set b (11 + n) lineEnd)) (let z : 12 + n ≡ 11 + n + 1 = omega arith in z)
           ∙ put-byte b (text ++ digits 10 n handle) (11 + n) lineEnd
-          (c .put-digits2 .ensures .is
+          (q .put-digits2 .ensures .is (omega arith)
           ∙ ap (λ (x : List ℕ). x ++ digits 10 n handle)
-          (put-action (p .put-digits .last .0) (digits 16 8 status) action (p .put-digits .ensures .is) (p .put-digits .ensures .kept)))
+          (put-action (p .put-digits .last .0) (digits 16 8 status) action (p .put-digits .ensures .is (omega arith)) (p .put-digits .ensures .kept)))
           (omega arith)
           ∙ put-reply (answerSeen (h .before .args .a)) status action handle n (t .status-of .ensures) (o .action-byte .ensures) (h .handle-of .ensures) (w .decimal-width .ensures);
       within = omega arith;
-      long = simp length-set l;
+      long = simp length-set e;
     }
 
 pub print-spec : {M : Type 1} → statement M
@@ -53,15 +51,17 @@ print-spec =
     (tie.spec
     (λ c κs. search needs)
     (λ c κs. search needs)
-    (λ c κs. search needs)
     (λ c. search needs)
     (λ c κs. search needs)
     (λ c. search needs)
     (λ c κs. search needs)
     (λ c. search needs)
+    (λ c κs. search needs)
     (λ c. search needs)
-    put-digits-requires-2
-    (λ c. omega (arith, width (c .before .before .before .before .before .before)))
-    (λ c. omega (arith, width (c .before .before .before .before .before .before)))
-    (λ c. omega (arith, width (c .before .before .before .before .before .before)))
+    (λ c. search needs)
+    (λ c. search needs)
+    (λ c κs. search needs)
+    (λ c. omega (arith, width (c .before .before .before .before .before .before .before .before)))
+    (λ c. omega (arith, width (c .before .before .before .before .before .before .before .before)))
+    (λ c. omega (arith, width (c .before .before .before .before .before .before .before .before)))
     returns)
