@@ -12,7 +12,7 @@ width c = omega (arith, c .decimal-width .ensures, decimal-bound (c .before .han
 -- the bytes before the handle's digits
 long : (c : tie.After-put-digits2) →
     let p = c .before .before .before .before in
-    length (set (set (set (p .put-digits .last .0) 8 space) 9 (c .before .before .action-of .result)) 10 space) ≡ 32
+    length (set (set (set (p .put-digits .last .0) 8 space) 9 (c .before .before .action-byte .result)) 10 space) ≡ 32
 long c = simp length-set (c .before .before .before .before .put-digits .ensures .kept)
 
 returns : tie.Need-returns
