@@ -5,15 +5,21 @@
 # make test      the tests: docs/TRACE.md held to the tree, the header's constants to the crates, the C tests, the Rust
 #                tests; then every crate proved from nothing, every must-fail edit refused, every program run. The last line
 #                is "N passed, 0 failed".
-# make test-c    the C tests alone; make test-rust the Rust tests alone
-# make bench     the benchmark
+# make test-c    the C tests alone; make test-rust the twin's tests and the comparison alone
+# make compare   random calls through the archive and the twin: make compare CALLS=10000000 SEED=7
+# make bench     times of the calls beside the twin's; writes docs/performance.csv and draws docs/performance.svg
 # make clean     removes build/
 IN ?= examples/lesson.txt
 PREFIX ?= /usr/local
 VERSION = 0.1
 SOURCES := $(shell find crates -name '*.rt' -o -name '*.antt') crates.txt
 
-.PHONY: all install run test test-c test-rust bench clean FORCE
+CALLS ?= 100000
+SEED ?= 1
+CARGO = ZANTHUPRA_LIB_DIR='$(CURDIR)/build' CARGO_TARGET_DIR='$(CURDIR)/build/cargo' RUSTFLAGS=-Dwarnings cargo
+QUIET = --manifest-path rust/Cargo.toml --offline --quiet
+
+.PHONY: all install run test test-c test-rust compare bench clean FORCE
 all: build/libzanthupra.a build/zanthupra.pc
 
 build/libzanthupra.a: tools/build-archive $(SOURCES)
@@ -48,10 +54,15 @@ test-c: all
 	@tests/run-c
 
 test-rust: all
-	@echo "test-rust: to be filled in" >&2; exit 1
+	@$(CARGO) test $(QUIET) -p zanthupra_twin
+	@$(MAKE) -s compare
+
+compare: all
+	@$(CARGO) run $(QUIET) --release -p compare -- $(CALLS) $(SEED)
 
 bench: all
-	@echo "bench: to be filled in" >&2; exit 1
+	@$(CARGO) run $(QUIET) --release -p bench -- --csv docs/performance.csv
+	@tools/plot docs/performance.csv docs/performance.svg
 
 clean:
 	@rm -rf build

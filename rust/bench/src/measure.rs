@@ -1,0 +1,117 @@
+//! Times of the calls of both, interleaved.
+
+use crate::volume::{Volume, ACCEPTED, REFUSED};
+use std::hint::black_box;
+use std::time::{Duration, Instant};
+use zanthupra_ours as ours;
+use zanthupra_twin::{self as twin, constants::Status, OpenReply, OpenRequest};
+
+pub const CALLS: [&str; 4] = ["open", "refused open", "close", "audit"];
+
+/// How often each call is made in a round, how many rounds a pass has, and how many passes
+/// are made over all volumes.
+#[derive(Clone, Copy)]
+pub struct Effort {
+    pub repeats: u32,
+    pub rounds: usize,
+    pub passes: usize,
+}
+
+/// Medians in microseconds of ours and of the twin, for each of `CALLS`.
+#[derive(Clone, Copy)]
+pub struct Times {
+    pub ours: [f64; 4],
+    pub twin: [f64; 4],
+}
+
+/// The calls of one side.
+struct Side {
+    open: fn(&mut [u8], &OpenRequest, &[u8]) -> OpenReply,
+    close: fn(&mut [u8], u64) -> u32,
+    audit: fn(&[u8]) -> bool,
+}
+
+const OURS: Side =
+    Side { open: ours::open, close: ours::close, audit: |tables| ours::audit(tables) == 1 };
+const TWIN: Side = Side { open: twin::open, close: twin::close, audit: twin::audit };
+
+/// A volume for each side, with the times measured on it so far.
+pub struct Measured {
+    path: Vec<u8>,
+    tables: [Vec<u8>; 2],
+    samples: [[Vec<f64>; 4]; 2],
+}
+
+impl Measured {
+    pub fn new(volume: Volume) -> Self {
+        Measured {
+            path: volume.path,
+            tables: [volume.tables.clone(), volume.tables],
+            samples: Default::default(),
+        }
+    }
+
+    pub fn tables(&self) -> &[u8] {
+        &self.tables[0]
+    }
+
+    /// One pass: rounds of one side and of the other take turns, and so does which of them
+    /// goes first.
+    pub fn pass(&mut self, effort: Effort) {
+        for round in 0..=effort.rounds {
+            for turn in 0..2 {
+                let side = (round + turn) % 2;
+                let calls = if side == 0 { &OURS } else { &TWIN };
+                let times = one_round(calls, &mut self.tables[side], &self.path, effort.repeats);
+                // The first round warms up.
+                if round > 0 {
+                    for (sample, time) in self.samples[side].iter_mut().zip(times) {
+                        sample.push(time);
+                    }
+                }
+            }
+        }
+    }
+
+    pub fn medians(&self) -> Times {
+        let [ours, twin] = self.samples.clone().map(|side| side.map(median));
+        Times { ours, twin }
+    }
+}
+
+/// Mean times of one round in microseconds. Each accepted open is closed again.
+fn one_round(side: &Side, tables: &mut [u8], path: &[u8], repeats: u32) -> [f64; 4] {
+    let mut times = [Duration::ZERO; 4];
+    for _ in 0..repeats {
+        let start = Instant::now();
+        let reply = (side.open)(black_box(tables), black_box(&ACCEPTED), black_box(path));
+        times[0] += start.elapsed();
+        assert_eq!(reply.status, Status::Success.code());
+
+        let start = Instant::now();
+        let refused = (side.open)(black_box(tables), black_box(&REFUSED), black_box(path));
+        times[1] += start.elapsed();
+        assert_eq!(refused.status, Status::SharingViolation.code());
+
+        let start = Instant::now();
+        let status = (side.close)(black_box(tables), black_box(reply.handle));
+        times[2] += start.elapsed();
+        assert_eq!(status, Status::Success.code());
+
+        let start = Instant::now();
+        let sound = (side.audit)(black_box(tables));
+        times[3] += start.elapsed();
+        assert!(sound);
+    }
+    times.map(|time| time.as_secs_f64() * 1e6 / f64::from(repeats))
+}
+
+fn median(mut sample: Vec<f64>) -> f64 {
+    sample.sort_by(f64::total_cmp);
+    let middle = sample.len() / 2;
+    if sample.len() % 2 == 1 {
+        sample[middle]
+    } else {
+        (sample[middle - 1] + sample[middle]) / 2.0
+    }
+}

@@ -1,0 +1,231 @@
+//! Soundness of tables, as document 01 lists it, in one pass over each table.
+
+use crate::constants::*;
+use crate::layout::*;
+use crate::names::{is_file_name, is_stream_name, stored_units, Unit};
+use crate::seen::{mix, Seen};
+use crate::sharing::Tallies;
+
+/// A set of files, a bit each.
+type FileSet = u128;
+
+const DATA: u16 = Kind::Data as u16;
+const DIRECTORY: u16 = Kind::Directory as u16;
+
+/// Files by what they are.
+struct Files {
+    used: FileSet,
+    directories: FileSet,
+}
+
+fn has(set: FileSet, file: usize) -> bool {
+    file < FILES && set >> file & 1 != 0
+}
+
+/// Adds a file to a set; false if it was there.
+fn add(set: &mut FileSet, file: usize) -> bool {
+    let bit = 1 << file;
+    let fresh = *set & bit == 0;
+    *set |= bit;
+    fresh
+}
+
+/// What audit answers: whether the tables are sound.
+pub fn is_sound(tables: &Tables) -> bool {
+    if tables.mark() > 1 || tables.next_handle() == 0 {
+        return false;
+    }
+    let Some(files) = check_files(tables) else {
+        return false;
+    };
+    check_links(tables, &files) && check_opens_and_streams(tables, &files)
+}
+
+/// Kinds, attributes and masks; free slots are zero; file 0 is a directory.
+fn check_files(tables: &Tables) -> Option<Files> {
+    let mut files = Files { used: 0, directories: 0 };
+    for (number, file) in tables.files().enumerate() {
+        let good = match file.kind() {
+            0 => file.is_zero(),
+            DATA => {
+                files.used |= 1 << number;
+                file.attributes() & FILE_ATTRIBUTE_DIRECTORY == 0
+            }
+            DIRECTORY => {
+                files.used |= 1 << number;
+                files.directories |= 1 << number;
+                file.attributes() & FILE_ATTRIBUTE_DIRECTORY != 0
+            }
+            _ => false,
+        };
+        let bits = masks(file.masks()).into_iter().fold(0, |sum, mask| sum | mask);
+        if !good || file.attributes() & !STORED_ATTRIBUTES != 0 || bits & !FILE_ALL_ACCESS != 0 {
+            return None;
+        }
+    }
+    has(files.directories, ROOT).then_some(files)
+}
+
+/// Each file but the root has one link, from a directory that leads to the root; no two
+/// links of one directory have the same name.
+fn check_links(tables: &Tables, files: &Files) -> bool {
+    let mut seen = Seen::new();
+    let mut linked: FileSet = 0;
+    let mut parents = [0u8; FILES];
+    for (number, link) in tables.links().enumerate() {
+        if link.is_free() {
+            if !link.is_zero() {
+                return false;
+            }
+            continue;
+        }
+        let (parent, file) = (link.parent(), link.file());
+        if !has(files.directories, parent) || !has(files.used, file) || !add(&mut linked, file) {
+            return false;
+        }
+        parents[file] = parent as u8;
+        let name = stored_units(link.name());
+        let same = |other| {
+            let other = tables.link(other);
+            other.parent() == parent && other.name() == link.name()
+        };
+        if !is_file_name(name) || !seen.insert(hash(parent, link.name(), name), number, same) {
+            return false;
+        }
+    }
+    linked == files.used & !1 && all_reach_root(&parents, linked)
+}
+
+/// Whether parents lead from each of these files to the root.
+fn all_reach_root(parents: &[u8; FILES], files: FileSet) -> bool {
+    let mut reach: FileSet = 1;
+    let mut left = files;
+    while left != 0 {
+        let start = left.trailing_zeros() as usize;
+        let mut passed: FileSet = 0;
+        let mut file = start;
+        while !has(reach, file) {
+            if !add(&mut passed, file) {
+                return false;
+            }
+            file = parents[file].into();
+        }
+        reach |= passed;
+        left &= !reach;
+    }
+    true
+}
+
+/// Opens are good, and tallies and streams agree with them and with the files.
+fn check_opens_and_streams(tables: &Tables, files: &Files) -> bool {
+    let mut tallies = [Tallies::default(); STREAMS];
+    check_opens(tables, &mut tallies) && check_streams(tables, files, &tallies)
+}
+
+/// Each open names a used stream and its file, handles are distinct and below the next
+/// one, and no two opens on a stream clash: none does with those before it. Counts the
+/// opens of each stream.
+fn check_opens(tables: &Tables, tallies: &mut [Tallies; STREAMS]) -> bool {
+    let mut seen = Seen::new();
+    let next_handle = tables.next_handle();
+    for (number, open) in tables.opens().enumerate() {
+        let handle = open.handle();
+        if handle == 0 {
+            if !open.is_zero() {
+                return false;
+            }
+            continue;
+        }
+        let (granted, share) = (open.granted(), open.share());
+        if handle >= next_handle
+            || granted == 0
+            || granted & !FILE_ALL_ACCESS != 0
+            || share > VALID_SHARES
+            || open.stream() >= STREAMS
+        {
+            return false;
+        }
+        let stream = tables.stream(open.stream());
+        if stream.kind() == 0 || stream.file() != open.file() {
+            return false;
+        }
+        let tallies = &mut tallies[open.stream()];
+        if tallies.clashes(granted, share) {
+            return false;
+        }
+        tallies.add(granted, share);
+        let same = |other| tables.open(other).handle() == handle;
+        if !seen.insert(mix(0, handle), number, same) {
+            return false;
+        }
+    }
+    true
+}
+
+/// Streams are of their files' kinds, tallies are true, and each file has one stream with
+/// the empty name, a directory no other; no two streams of one file have the same name.
+fn check_streams(tables: &Tables, files: &Files, tallies: &[Tallies; STREAMS]) -> bool {
+    let mut seen = Seen::new();
+    let mut with_empty_name: FileSet = 0;
+    for (number, stream) in tables.streams().enumerate() {
+        let kind = stream.kind();
+        if kind == 0 {
+            if !stream.is_zero() {
+                return false;
+            }
+            continue;
+        }
+        let file = stream.file();
+        let right_file = match kind {
+            DATA => has(files.used & !files.directories, file),
+            DIRECTORY => has(files.directories, file),
+            _ => false,
+        };
+        if !right_file || stream.tallies() != tallies[number] {
+            return false;
+        }
+        let name = stored_units(stream.name());
+        let good_name = if name.is_empty() {
+            add(&mut with_empty_name, file)
+        } else {
+            let same = |other| {
+                let other = tables.stream(other);
+                other.file() == file && other.name() == stream.name()
+            };
+            kind == DATA
+                && is_stream_name(name)
+                && seen.insert(hash(file, stream.name(), name), number, same)
+        };
+        if !good_name {
+            return false;
+        }
+    }
+    with_empty_name == files.used
+}
+
+/// A hash of a file's number and the words of a name.
+#[inline(always)]
+fn hash(file: usize, name: &NameBytes, units: &[Unit]) -> u64 {
+    let words = name.as_chunks::<8>().0;
+    words[..units.len().div_ceil(4)]
+        .iter()
+        .fold(mix(0, file as u64 + 1), |hash, word| mix(hash, u64::from_le_bytes(*word)))
+}
+
+#[cfg(test)]
+mod tests {
+    use super::*;
+
+    #[test]
+    fn parents_lead_to_the_root_or_round_in_a_ring() {
+        // Each file's parent is the next one, and the last one's is the root.
+        let mut parents: [u8; FILES] = std::array::from_fn(|file| ((file + 1) % FILES) as u8);
+        assert!(all_reach_root(&parents, !1));
+        parents[FILES - 1] = 5;
+        assert!(!all_reach_root(&parents, !1));
+        parents = [0; FILES];
+        parents[7] = 7;
+        assert!(!all_reach_root(&parents, 1 << 7));
+        assert!(all_reach_root(&parents, 1 << 8));
+    }
+}
