@@ -1,6 +1,7 @@
 -- The chain of a bucket passes every key of the bucket: a key is found along it where it is found at all.
-use Rattle.base.{specs.Base.{ℕ, zero, suc, _≤_, _<_, _≡_, true, false, List, getD, eqb}, proofs.Laws.{refl, sym, _∙_, ap, arith, eqb-true, eq-eqb, ne-eqb, by-cases, not-both, and-left, and-right, and-both, cond-true, cond-false}}
-use Rattle.distinct.specs.{Keys.isKey, Buckets.{bucketOf, inBucket, found, last, Chain}}
+use Rattle.base.{specs.Base.{ℕ, zero, suc, _≤_, _<_, _≡_, true, false, List, getD, eqb, leb}, proofs.Laws.{refl, sym, _∙_, ap, arith, eqb-true, le-leb, eq-eqb, ne-eqb, by-cases, not-both, and-left, and-right, and-both, cond-true, cond-false}}
+use borrow.Author.Tests.{leb-true}
+use Rattle.distinct.specs.{Keys.isKey, Buckets.{bucketOf, inBucket, pointerAt, found, last, Chain}}
 
 -- a key is in its own bucket
 pub own-bucket : (k : ℕ) → isKey k ≡ true → inBucket (bucketOf k) k ≡ true
@@ -85,3 +86,13 @@ module _ {keys next : List ℕ} {at key : ℕ} (m : ℕ) (e : at ≡ suc m) (c :
         };
         same = rw f (found-past keys key m e d ∙ sym (found-last keys key m (c .counts)));
       }
+
+-- the pointer at a place leads back, and is what stands there where that does
+module _ (next : List ℕ) (m : ℕ) where
+  pub pointer-back : pointerAt next m ≤ m
+  unfolding pointerAt
+  pointer-back = by-cases (leb (getD next m 0) m) (λ e. rw e (leb-true (getD next m 0) m e)) (λ e. rw e (omega arith))
+
+  pub pointer-is : getD next m 0 ≤ m → pointerAt next m ≡ getD next m 0
+  unfolding pointerAt
+  pointer-is h = rw (le-leb (getD next m 0) m h)

@@ -1,5 +1,5 @@
 -- The buckets, for the functions below `distinct`. A pointer is a place plus one, 0 for none; `last` says what each must be.
-use Rattle.base.specs.Base.{ℕ, zero, suc, _≤_, _<_, _≡_, Bool, true, false, cond, _&&_, _||_, List, length, getD, eqb}
+use Rattle.base.specs.Base.{ℕ, zero, suc, _≤_, _<_, _≡_, Bool, true, false, cond, _&&_, _||_, List, length, getD, eqb, leb}
 use Prim.Native.Nat.{_%_}
 use Rattle.distinct.specs.Keys.{isKey}
 
@@ -16,6 +16,10 @@ bucketOf k = k % buckets
 -- k is a key of bucket h
 abbrev pub inBucket : ℕ → ℕ → Bool
 inBucket h k = isKey k && eqb (bucketOf k) h
+
+-- the pointer at a place, which leads back, to the place itself at most; 0 where there is none
+unfoldable pub pointerAt : List ℕ → ℕ → ℕ
+pointerAt next place = let to = getD next place 0 in cond (leb to place) to 0
 
 module _ (keys : List ℕ) where
   -- whether k stands before place i

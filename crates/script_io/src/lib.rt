@@ -23,8 +23,10 @@ use records_opens::write_open;
 use records_streams::write_stream;
 use script_answers::answer_line;
 ghost use mathlib.Core.Path.{_≡_};
-ghost use Prim.Native.Nat.{_≤_, _<_};
-ghost use lib.ListN.{length};
+ghost use mathlib.Core.Bool.{cond};
+ghost use Prim.Native.Nat.{_-_};
+ghost use lib.Dec.{eqb};
+ghost use lib.ListN.{length, take};
 ghost use Rattle.layout.specs.Layout.{tablesSize};
 
 const LINE_END: u8 = 0x0A;
@@ -78,13 +80,21 @@ fn answer(tables: &mut [u8], line: &[u8]) {
     io::write_all(STDOUT_FILENO, &bytes[..count]);
 }
 
-// A byte more, after `n` bytes of a line, which is answered at its end; how many bytes of a line are there then.
-fn take_byte(tables: &mut [u8], line: &mut [u8], n: usize, byte: u8) -> usize
-    requires { ⌜ n ≤ length (now line) ⌝ }
-    ensures { λ r. ⌜ r ≤ length (now (line .exit)) ⌝ }
+// The bytes before a place.
+pub fn bytes_before(bytes: &[u8], end: usize) -> &[u8]
+    ensures { λ r. ⌜ now r ≡ take end (now (bytes .entry)) ⌝ }
 {
+    if end < bytes.len() {
+        &bytes[..end]
+    } else {
+        bytes
+    }
+}
+
+// A byte more, after `n` bytes of a line, which is answered at its end; how many bytes of a line are there then.
+fn take_byte(tables: &mut [u8], line: &mut [u8], n: usize, byte: u8) -> usize {
     if byte == LINE_END {
-        answer(tables, &line[..n]);
+        answer(tables, bytes_before(line, n));
         return 0;
     }
     if n < line.len() {
@@ -95,10 +105,7 @@ fn take_byte(tables: &mut [u8], line: &mut [u8], n: usize, byte: u8) -> usize
 }
 
 // The bytes of a part of the input.
-fn take_bytes(tables: &mut [u8], line: &mut [u8], begun: usize, input: &[u8]) -> usize
-    requires { ⌜ begun ≤ length (now line) ⌝ }
-    ensures { λ r. ⌜ r ≤ length (now (line .exit)) ⌝ }
-{
+fn take_bytes(tables: &mut [u8], line: &mut [u8], begun: usize, input: &[u8]) -> usize {
     let mut n = begun;
     let mut i = 0;
     while i < input.len() {
@@ -111,10 +118,15 @@ fn take_bytes(tables: &mut [u8], line: &mut [u8], begun: usize, input: &[u8]) ->
 // How many turns are left after one that read `count` bytes: none where the input has ended. Nothing says that it ever ends,
 // so that a bound stands in for it.
 fn turns_after(left: u64, count: usize) -> u64
-    requires { ⌜ 0 < left ⌝ }
-    ensures { λ r. ⌜ r < left ⌝ }
+    ensures { λ r. ⌜ r ≡ cond (eqb count 0) 0 (left - 1) ⌝ }
 {
-    if count == 0 { 0 } else { left - 1 }
+    if count == 0 {
+        return 0;
+    }
+    if left == 0 {
+        return 0;
+    }
+    left - 1
 }
 
 // The input part by part, to its end. The last line may lack its line end.
@@ -130,7 +142,7 @@ fn answer_input(tables: &mut [u8]) {
         left = turns_after(left, count);
     }
     if 0 < n {
-        answer(tables, &line[..n]);
+        answer(tables, bytes_before(&line, n));
     }
 }
 

@@ -13,9 +13,9 @@ use paths::ParsedPath;
 ghost use mathlib.Core.Path.{_≡_};
 ghost use mathlib.Core.Bool.{cond};
 ghost use mathlib.Core.List.{_++_};
-ghost use Prim.Native.Nat.{_≤_, _%_};
+ghost use Prim.Native.Nat.{_%_};
 ghost use lib.Dec.{eqb};
-ghost use lib.ListN.{length, getD, drop};
+ghost use lib.ListN.{length, getD, take, drop};
 ghost use Rattle.components.specs.Positions.{placeOf};
 
 const LINE_LIMIT: usize = 1024;
@@ -37,13 +37,12 @@ fn byte_of(unit: u16) -> u8
     (unit % 256) as u8
 }
 
-// The bytes as units, from the buffer's start on.
+// The bytes as units, from the buffer's start on, those that have a place there.
 fn write_units(bytes: &[u8], units: &mut [u16])
-    requires { ⌜ length (now bytes) ≤ length (now units) ⌝ }
-    ensures { λ _. ⌜ now (units .exit) ≡ now (bytes .entry) ++ drop (length (now (bytes .entry))) (now (units .entry)) ⌝ }
+    ensures { λ _. ⌜ now (units .exit) ≡ take (length (now (units .entry))) (now (bytes .entry)) ++ drop (length (now (bytes .entry))) (now (units .entry)) ⌝ }
 {
     let mut i = 0;
-    while i < bytes.len() {
+    while i < bytes.len() && i < units.len() {
         units[i] = unit_of(bytes[i]);
         i += 1;
     }

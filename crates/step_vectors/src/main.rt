@@ -5,6 +5,7 @@ use libc::STDOUT_FILENO;
 use records::constants::ALL_ACCESS;
 use records::sizes::ACCOUNTS;
 use script_answers::answer_line;
+use script_io::bytes_before;
 use script_lines::Printed;
 use script_lines::print_unknown;
 ghost use mathlib.Core.Path.{_≡_};
@@ -38,17 +39,6 @@ fn after_line(text: &[u8], at: usize) -> usize
         i += 1;
     }
     text.len()
-}
-
-// The bytes before a place.
-fn bytes_before(bytes: &[u8], end: usize) -> &[u8]
-    ensures { λ r. ⌜ now r ≡ take end (now (bytes .entry)) ⌝ }
-{
-    if end < bytes.len() {
-        &bytes[..end]
-    } else {
-        bytes
-    }
 }
 
 // Whether two texts are the same.

@@ -1,7 +1,7 @@
--- `step_vectors::bytes_before` meets its contract: past the end all bytes are taken.
+-- `script_io::bytes_before` meets its contract: past the end all bytes are taken.
 use Rattle.base.proofs.Laws.{sym, arith, length-take, take-all, needs}
-use Rattle.step_vectors.proofs.bytes_before.Statement.{statement}
-use Rattle.step_vectors.proofs.bytes_before.Tie as tie
+use Rattle.script_io.proofs.bytes_before.Statement.{statement}
+use Rattle.script_io.proofs.bytes_before.Tie as tie
 
 slice-aggregate-result : tie.Need-slice-aggregate-result
 slice-aggregate-result c = omega (arith, length-take (c .before .before .args .end) (c .before .before .args .bytes .now))
