@@ -1,0 +1,104 @@
+// The opens as a lent row of records, `&[Open]` and `&mut [Open]`: the record at a row, a record stored at a row, and the
+// lowest row that a search is for. Above them stand functions on the lent bytes, which read the table into a row once.
+use open_table::OpenSlot;
+use records::Handle;
+use records::Open;
+use records::StreamNo;
+use records::sizes::OPEN_SLOTS;
+use records::slots::ZERO_OPEN;
+use records_opens::read_open;
+use sharing::conflicting;
+ghost use mathlib.Core.Path.{_≡_};
+ghost use mathlib.Core.Bool.{Bool, true, false};
+ghost use lib.ListN.{length, getD, set};
+ghost use Rattle.lists.specs.Lists.{first};
+ghost use Rattle.records.specs.Slots.{zeroOpen};
+ghost use Rattle.layout.specs.Layout.{tablesSize, decode};
+ghost use Rattle.open_table.specs.Rows.{rowSlot, hasHandle};
+ghost use Rattle.sharing.specs.Sharing.{anyConflict};
+ghost use Rattle.open_rows.specs.Search.{isSought};
+
+// What a row is searched for: an open's handle, or the terms that an open on a stream is to conflict with.
+pub enum Sought {
+    WithHandle(Handle),
+    Conflicting(StreamNo, u32, u32),
+}
+
+// The open at a row. Past the end it is the one that stands for none.
+fn open_at(row: &[Open], i: usize, none: Open) -> Open
+    ensures { λ r. ⌜ r ≡ getD (now (row .entry)) i none ⌝ }
+{
+    if i < row.len() { row[i] } else { none }
+}
+
+// An open stored at a row. Past the end nothing is stored.
+fn store_at(row: &mut [Open], i: usize, o: Open)
+    ensures { λ _. ⌜ now (row .exit) ≡ set (now (row .entry)) i o ⌝ }
+{
+    if i < row.len() {
+        row[i] = o;
+    }
+}
+
+// The open is one that is sought.
+fn is_sought(o: Open, s: Sought) -> bool
+    ensures { λ r. ⌜ r ≡ isSought s o ⌝ }
+{
+    match s {
+        Sought::WithHandle(h) => o.handle.0 != 0 && o.handle.0 == h.0,
+        Sought::Conflicting(stream, granted, share) => {
+            let handle = o.handle;
+            let file = o.file;
+            let new = Open {
+                handle,
+                file,
+                stream,
+                granted,
+                share,
+            };
+            o.stream.0 == stream.0 && conflicting(o, new)
+        }
+    }
+}
+
+// The lowest row whose open is sought.
+fn first_row(row: &[Open], s: Sought) -> OpenSlot
+    ensures { λ r. ⌜ rowSlot r ≡ first (isSought s) (now (row .entry)) ⌝ }
+{
+    let mut i = 0;
+    while i < row.len() {
+        if is_sought(row[i], s) {
+            return OpenSlot::At(i);
+        }
+        i += 1;
+    }
+    OpenSlot::Full
+}
+
+// The table of opens as a row.
+fn read_opens(b: &[u8]) -> [Open; OPEN_SLOTS]
+    requires { ⌜ length (now b) ≡ tablesSize ⌝ }
+    ensures { λ r. ⌜ r ≡ decode (now (b .entry)) .opens .rows ⌝ }
+{
+    let mut rows = [ZERO_OPEN; OPEN_SLOTS];
+    for i in 0..OPEN_SLOTS {
+        rows[i] = read_open(b, i);
+    }
+    rows
+}
+
+// The row lent for a search.
+fn found_in(rows: [Open; OPEN_SLOTS], s: Sought) -> OpenSlot
+    ensures { λ r. ⌜ rowSlot r ≡ first (isSought s) rows ⌝ }
+{
+    first_row(&rows, s)
+}
+
+// The row lent for a store: the record that the row then holds there.
+fn stored_in(rows: [Open; OPEN_SLOTS], i: usize, o: Open) -> Open
+    ensures { λ r. ⌜ r ≡ getD (set rows i o) i o ⌝ }
+{
+    let mut changed = rows;
+    store_at(&mut changed, i, o);
+    open_at(&changed, i, o)
+}
