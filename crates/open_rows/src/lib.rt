@@ -15,7 +15,8 @@ ghost use Rattle.lists.specs.Lists.{first};
 ghost use Rattle.records.specs.Slots.{zeroOpen};
 ghost use Rattle.layout.specs.Layout.{tablesSize, decode};
 ghost use Rattle.open_table.specs.Rows.{rowSlot, hasHandle};
-ghost use Rattle.sharing.specs.Sharing.{anyConflict};
+ghost use Rattle.records.specs.Terms.{termsOf};
+ghost use Rattle.sharing.specs.Sharing.{conflict, anyConflict};
 ghost use Rattle.open_rows.specs.Search.{isSought};
 
 // What a row is searched for: an open's handle, or the terms that an open on a stream is to conflict with.
@@ -40,23 +41,37 @@ fn store_at(row: &mut [Open], i: usize, o: Open)
     }
 }
 
+// An open conflicts with one of these terms (the pair rule).
+fn conflicts_with(o: Open, granted: u32, share: u32) -> bool
+    ensures { λ r. ⌜ r ≡ conflict (termsOf o) (record { granted = granted; share = share }) ⌝ }
+{
+    let handle = o.handle;
+    let file = o.file;
+    let stream = o.stream;
+    conflicting(
+        o,
+        Open {
+            handle,
+            file,
+            stream,
+            granted,
+            share,
+        },
+    )
+}
+
 // The open is one that is sought.
 fn is_sought(o: Open, s: Sought) -> bool
     ensures { λ r. ⌜ r ≡ isSought s o ⌝ }
 {
     match s {
-        Sought::WithHandle(h) => o.handle.0 != 0 && o.handle.0 == h.0,
+        Sought::WithHandle(h) => (o.handle.0 != 0) & (o.handle.0 == h.0),
         Sought::Conflicting(stream, granted, share) => {
-            let handle = o.handle;
-            let file = o.file;
-            let new = Open {
-                handle,
-                file,
-                stream,
-                granted,
-                share,
-            };
-            o.stream.0 == stream.0 && conflicting(o, new)
+            if o.stream.0 == stream.0 {
+                conflicts_with(o, granted, share)
+            } else {
+                false
+            }
         }
     }
 }
