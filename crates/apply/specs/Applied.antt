@@ -1,5 +1,5 @@
 -- What the writes of a decided call leave.
-use Rattle.base.specs.Base.{ℕ, suc, _≡_, List, length, set, fileNameLimit, streamNameLimit, lastHandle, zeroOpen, withCounts, Tables, LinkNo, StreamNo, Link, BareStream, Open}
+use Rattle.base.specs.Base.{ℕ, suc, _≡_, List, length, set, fileNameLimit, streamNameLimit, lastHandle, withCounts, Tables, LinkNo, StreamNo, Link, BareStream, Open}
 use Prim.Native.Nat.{min}
 use Rattle.codecs.specs.Codec.{Each}
 use Rattle.layout.specs.{Layout.{tablesSize, Changed}, Puts.putStream}
@@ -66,9 +66,9 @@ openStored t row o =
 unfoldable pub applied : Tables → Decision → ℕ → Tables
 applied t d row = openStored (placedIn t (d .placed)) row (newOpen d)
 
--- the open of a row struck
-unfoldable pub struckFrom : Tables → ℕ → Tables
-struckFrom t row =
+-- the open of a row struck, for which the record of a free row stands there
+unfoldable pub struckFrom : Tables → ℕ → Open → Tables
+struckFrom t row free =
     let o = rowAt (t .opens) row in
     record {
       volume =
@@ -79,5 +79,5 @@ struckFrom t row =
             links = t .volume .links;
             streams = recount (withoutOpen o) (o .stream) (t .volume .streams);
           };
-      opens = record { rows = set (t .opens .rows) row zeroOpen };
+      opens = record { rows = set (t .opens .rows) row free };
     }

@@ -1,6 +1,9 @@
 // A decided call written into the tables: an accepted open, and an open that is struck. Only the records that change are
 // written.
 use components::part_of;
+use open_rows::RowChange;
+use open_rows::RowChoice;
+use open_rows::change_row;
 use open_steps::AcceptedOpen;
 use open_steps::FileSlots;
 use open_steps::FileToAdd;
@@ -15,7 +18,6 @@ use records::Link;
 use records::Open;
 use records::Stream;
 use records::StreamNo;
-use records::slots::ZERO_OPEN;
 use records_files::read_file;
 use records_files::write_file;
 use records_links::write_link;
@@ -207,16 +209,21 @@ fn stream_of(placed: PlacedOpen) -> StreamNo
     }
 }
 
-// The open takes its row and joins its stream's share counts, and the next handle rises by one.
+// The open takes its row and joins its stream's share counts, and the next handle rises by one. It is stored in the lent row
+// of opens, and what that row then has goes into the bytes.
 fn store_open(b: &mut [u8], row: usize, o: Open)
     requires { ⌜ length (now b) ≡ tablesSize ⌝ }
     ensures { λ _. ⌜ Changed (now (b .entry)) (now (b .exit)) (openStored (decode (now (b .entry))) row o) ⌝ }
 {
     let stream = o.stream;
     let handle = o.handle;
+    let change = change_row(b, RowChoice::Numbered(row), o);
+    let RowChange::At(place, stored) = change else {
+        return;
+    };
     let counts = with_open(o, read_counts(b, stream));
     write_counts(b, stream, counts);
-    write_open(b, row, o);
+    write_open(b, place, stored);
     write_next(b, raised(handle));
 }
 
@@ -245,14 +252,14 @@ pub fn apply_open(b: &mut [u8], path: &[u16], a: AcceptedOpen)
     );
 }
 
-// An open that is struck: its row is free again, and it leaves its stream's share counts.
-pub fn strike_open(b: &mut [u8], row: usize)
+// An open that is struck: it leaves its stream's share counts, and its row has the record of a free one.
+pub fn strike_open(b: &mut [u8], row: usize, free: Open)
     requires { ⌜ length (now b) ≡ tablesSize ⌝ }
-    ensures { λ _. ⌜ Changed (now (b .entry)) (now (b .exit)) (struckFrom (decode (now (b .entry))) row) ⌝ }
+    ensures { λ _. ⌜ Changed (now (b .entry)) (now (b .exit)) (struckFrom (decode (now (b .entry))) row free) ⌝ }
 {
     let o = read_open(b, row);
     let stream = o.stream;
     let counts = without_open(o, read_counts(b, stream));
     write_counts(b, stream, counts);
-    write_open(b, row, ZERO_OPEN);
+    write_open(b, row, free);
 }

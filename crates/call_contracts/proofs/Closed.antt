@@ -52,7 +52,7 @@ module _ (t : Tables) (h : Handle) where
     own-handle = handle-is h _ (after-found (hasHandle h) zeroOpen (t .opens .rows) 0 row found .passes)
 
     -- what is struck is what a close leaves
-    pub struck-is : closed t (closingOf t row) .state ≡ struckFrom t row
+    pub struck-is : closed t (closingOf t row) .state ≡ struckFrom t row zeroOpen
     unfolding closed changedVolume volumeWithoutOpen writes writeStreams rowsWithoutOpen stored struckFrom
     struck-is = rw (own-handle, found)
 

@@ -1,13 +1,15 @@
-// A close: consistency, then the open that has the handle is struck.
+// A close: consistency, then the open that has the handle is found in the lent row of opens and struck.
 use crate::answers::done;
 use crate::answers::refused;
 use apply::strike_open;
 use audit::audit;
-use open_table::OpenSlot;
-use open_table::find_open;
+use open_rows::RowChange;
+use open_rows::RowChoice;
+use open_rows::change_row;
 use records::Answer;
 use records::Handle;
 use records::Status;
+use records::slots::ZERO_OPEN;
 ghost use Rattle.store.specs.Store.{storeClose};
 ghost use Rattle.call_contracts.specs.Performs.{Performs};
 
@@ -17,10 +19,10 @@ pub fn close(b: &mut [u8], h: Handle) -> Answer
     if !audit(b) {
         return refused(Status::FileCorruptError);
     }
-    let slot = find_open(b, h);
-    let OpenSlot::At(row) = slot else {
+    let change = change_row(b, RowChoice::WithHandle(h), ZERO_OPEN);
+    let RowChange::At(row, free) = change else {
         return refused(Status::InvalidHandle);
     };
-    strike_open(b, row);
+    strike_open(b, row, free);
     done()
 }

@@ -1,14 +1,12 @@
-// The table of opens in the lent bytes: the lowest free row, the row of a handle, and whether a file has an open.
+// The table of opens in the lent bytes: the lowest free row, and whether a file has an open.
 use records::FileNo;
-use records::Handle;
 use records::sizes::OPEN_SLOTS;
 use records_opens::read_handle;
 use records_opens::read_open_file;
 ghost use mathlib.Core.Path.{_≡_};
 ghost use lib.ListN.{length};
-ghost use Rattle.lists.specs.Lists.{first};
 ghost use Rattle.layout.specs.Layout.{tablesSize, decode};
-ghost use Rattle.open_table.specs.Rows.{freeRow, rowSlot, fileHasOpen, hasHandle};
+ghost use Rattle.open_table.specs.Rows.{freeRow, rowSlot, fileHasOpen};
 
 // What a search for a row finds: the lowest one, or, as `Full`, that there is none. A row has no number of its own kind:
 // handles come from elsewhere.
@@ -40,20 +38,4 @@ pub fn file_has_open(b: &[u8], f: FileNo) -> bool
         }
     }
     false
-}
-
-// The row of the open that has the handle. No open has handle 0.
-pub fn find_open(b: &[u8], h: Handle) -> OpenSlot
-    requires { ⌜ length (now b) ≡ tablesSize ⌝ }
-    ensures { λ r. ⌜ rowSlot r ≡ first (hasHandle h) (decode (now (b .entry)) .opens .rows) ⌝ }
-{
-    if h.0 == 0 {
-        return OpenSlot::Full;
-    }
-    for row in 0..OPEN_SLOTS {
-        if read_handle(b, row).0 == h.0 {
-            return OpenSlot::At(row);
-        }
-    }
-    OpenSlot::Full
 }

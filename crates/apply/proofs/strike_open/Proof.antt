@@ -1,5 +1,5 @@
 -- `apply::strike_open` meets its contract: the counts, then the row.
-use Rattle.base.{specs.Base.{bare, withCounts, zeroOpen, Tables}, proofs.Laws.needs}
+use Rattle.base.{specs.Base.{bare, withCounts, Tables}, proofs.Laws.needs}
 use Rattle.layout.specs.Puts.{putOpen}
 use Rattle.store.specs.Store.{recount}
 use Rattle.tables.specs.Tables.{streamAt}
@@ -15,7 +15,7 @@ returns c =
     let counts = row .before .before .before .before in
     let left = counts .before .before in
     let o = left .before .before .before .before in
-    changed-then (λ (t : Tables). putOpen t (o .before .before .before .args .row) zeroOpen)
+    changed-then (λ (t : Tables). putOpen t (o .before .before .before .args .row) (o .before .before .before .args .free))
     (rw (left .without-open .ensures, left .before .read-counts .ensures, o .read-open .ensures)
     at (counts .write-counts .ensures))
     (row .write-open .ensures)
