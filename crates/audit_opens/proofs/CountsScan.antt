@@ -1,7 +1,7 @@
 -- The opens counted in one pass: the counts of every stream, by its number, of the rows from a place on.
-use Rattle.base.{specs.Base.{ℕ, _≤_, _<_, _≡_, Bool, true, false, List, _∷_, length, getD, drop, replicate, allFrom, count, keep, openUsed, zeroCounts, Open, ShareCounts, StreamNo, Stream}, proofs.Laws.{refl, sym, _∙_, ap, arith, drop-of-length-le, getD-replicate, eq-eqb, by-cases, numbered-same, count-bound, keep-yes, keep-no, length-keep, Noted, keyed}}
+use Rattle.base.{specs.Base.{ℕ, _-_, _≤_, _<_, _≡_, Bool, true, false, _⊎_, List, _∷_, length, getD, set, drop, replicate, allFrom, count, keep, streamSlots, openSlots, openUsed, zeroCounts, zeroOpen, Open, ShareCounts, StreamNo, Stream}, proofs.Laws.{refl, sym, _∙_, ap, arith, length-set, length-drop, drop-of-length-le, getD-replicate, eq-eqb, by-cases, numbered-same, count-bound, keep-yes, keep-no, length-keep, Noted, keyed, back-set, back-skip}}
 use Rattle.consistency.specs.Test.{sameCounts, countsTest}
-use Rattle.sharing.{specs.{Sharing.{onStream, countsOf, countsOfAll}, Saturating.withOpenUpTo}, proofs.{Counts.{counts-cons, counts-skip}, UpTo.up-to-counts}}
+use Rattle.sharing.{specs.{Sharing.{onStream, countsOf, countsOfAll}, Saturating.{countLimit, withOpenUpTo}}, proofs.{Counts.{counts-cons, counts-skip}, UpTo.up-to-counts}}
 use Rattle.tables.specs.Tables.{live}
 
 -- the stream with a number, that of an open, and what rows say of it: the counts of its live opens
@@ -39,6 +39,51 @@ counts-other n o os e =
     by-cases (openUsed o)
     (λ u. ap (countsOf (stream n)) (keep-yes openUsed o os u) ∙ counts-skip (stream n) o (keep openUsed os) (rw u at e))
     (λ u. ap (countsOf (stream n)) (keep-no openUsed o os u))
+
+-- the pass over the rows from the last one: the counts are those of the rows passed
+pub record Tallied (rows : List Open) (counts : List ShareCounts) (i : ℕ) : Type 0 where
+  pub place : i ≤ openSlots
+  pub size : length counts ≡ streamSlots
+  pub counted : Noted zeroCounts streamSlots counts (λ n. countsOn n (drop i rows))
+
+module _ (rows : List Open) (long : length rows ≡ openSlots) where
+  pub tally-begins : Tallied rows (replicate streamSlots zeroCounts) openSlots
+  tally-begins =
+      record { place = omega arith; size = refl; counted = none-counted streamSlots rows openSlots (omega arith) }
+
+  -- one row more, as it was read: it is counted on its stream, or there is nothing to count
+  module _ {counts : List ShareCounts} (i : ℕ) (positive : 0 < i) (pass : Tallied rows counts i)
+      {o : Open} (read : o ≡ getD rows (i - 1) zeroOpen) where
+    pub tally-counts : openUsed o ≡ true → streamNo o < streamSlots → {after : ShareCounts}
+        → after ≡ withOpenUpTo countLimit o (getD counts (streamNo o) zeroCounts)
+        → Tallied rows (set counts (streamNo o) after) (i - 1)
+    tally-counts used below {after} e =
+        record {
+          place = omega (arith, pass .place);
+          size = length-set counts (streamNo o) after ∙ pass .size;
+          counted =
+              rw read
+              (back-set streamNo openUsed countsOn counts-other rows i zeroOpen positive (omega (arith, pass .place)) zeroCounts
+              streamSlots counts (pass .counted) (pass .size) (rw read at below) after
+              (rw read at
+              (e
+              ∙ ap (withOpenUpTo countLimit o) (pass .counted (streamNo o) below)
+              ∙ sym (counts-own countLimit o (drop i rows) used (omega (arith, length-drop i rows))))));
+        }
+
+    pub tally-skips : (openUsed o ≡ false) ⊎ (streamSlots ≤ streamNo o) → Tallied rows counts (i - 1)
+    tally-skips w =
+        record {
+          place = omega (arith, pass .place);
+          size = pass .size;
+          counted =
+              back-skip streamNo openUsed countsOn counts-other rows i zeroOpen positive (omega (arith, pass .place)) zeroCounts
+              streamSlots counts (pass .counted) (rw read at w);
+        }
+
+  pub tally-ends : {counts : List ShareCounts} {i : ℕ} → i ≡ 0 → Tallied rows counts i
+      → (n : ℕ) → n < streamSlots → getD counts n zeroCounts ≡ countsOn n rows
+  tally-ends end pass n b = pass .counted n b ∙ ap (λ (m : ℕ). countsOn n (drop m rows)) end
 
 -- a stream's counts against those found
 abbrev pub foundTest : List ShareCounts → ℕ → Stream → Bool

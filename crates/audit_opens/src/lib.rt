@@ -1,6 +1,6 @@
-// The audit of the open table, in one pass over it: each row by itself, its handle, and the share counts of its stream.
-// Then the handles, by their numbers, and the counts against those that the streams have. The pass goes from the last row
-// to the first, as each row comes in front of those counted.
+// The audit of the open table: each row by itself, and the handles, by their numbers; then the share counts, counted anew and
+// held against those that the streams have. A pass goes from the last row to the first, as each row comes in front of those
+// passed.
 use bits::within;
 use distinct::distinct;
 use records::FileNo;
@@ -21,14 +21,17 @@ use records_streams::read_stream_file;
 use records_streams::read_stream_type;
 use records_volume::read_next;
 use sharing::with_open;
+ghost use Prim.Native.Nat.{ℕ, _<_};
 ghost use mathlib.Core.Path.{_≡_};
 ghost use mathlib.Core.Bool.{_&&_};
 ghost use mathlib.Core.List.{[]};
 ghost use lib.ListN.{length, getD};
-ghost use Rattle.lists.specs.Lists.{allFrom};
 ghost use Rattle.records.specs.Slots.{zeroCounts, openUsed};
+ghost use Rattle.records.specs.Sizes.{streamSlots};
 ghost use Rattle.records.specs.Namespace.{namespace};
 ghost use Rattle.layout.specs.Layout.{tablesSize, decode};
+ghost use Rattle.tables.specs.Tables.{live};
+ghost use Rattle.sharing.specs.Sharing.{countsOf};
 ghost use Rattle.consistency.specs.Slots.{slotTest};
 ghost use Rattle.consistency.specs.Good.{goodOpen, isZeroOpen};
 ghost use Rattle.consistency.specs.Test.{opensTest, sameCounts, countsTest};
@@ -76,12 +79,33 @@ fn same_counts(c: ShareCounts, d: ShareCounts) -> bool
         & (c.shared_delete == d.shared_delete)
 }
 
-// Whether the streams have the counts that were found. An array of records is not lent, so it comes by value.
-fn counts_held(b: &[u8], counts: [ShareCounts; STREAM_SLOTS]) -> bool
+// The share counts of every stream, by its number, of its live opens. A row that names no slot of the streams table counts for
+// none.
+fn counts_found(b: &[u8]) -> [ShareCounts; STREAM_SLOTS]
     requires { ⌜ length (now b) ≡ tablesSize ⌝ }
-    ensures { λ r.
-        ⌜ r ≡ allFrom (λ n s. sameCounts (s .counts) (getD counts n zeroCounts)) 0 (decode (now (b .entry)) .volume .streams) ⌝ }
+    ensures { λ r. ⌜ ((n : ℕ) → n < streamSlots → getD r n zeroCounts ≡ countsOf (record { 0 = n }) (live (decode (now (b .entry)) .opens .rows))) ⌝ }
 {
+    let mut counts = [ZERO_COUNTS; STREAM_SLOTS];
+    let mut i: usize = OPEN_SLOTS;
+    while 0 < i {
+        i -= 1;
+        let o = read_open(b, i);
+        let n = o.stream.0 as usize;
+        if open_used(o) && n < STREAM_SLOTS {
+            let before = counts[n];
+            let after = with_open(o, before);
+            counts[n] = after;
+        }
+    }
+    counts
+}
+
+// Whether every stream has the counts of its opens.
+fn counts_true(b: &[u8]) -> bool
+    requires { ⌜ length (now b) ≡ tablesSize ⌝ }
+    ensures { λ r. ⌜ r ≡ countsTest (decode (now (b .entry)) .volume .streams) (decode (now (b .entry)) .opens .rows) ⌝ }
+{
+    let counts = counts_found(b);
     let mut i: usize = 0;
     while i < STREAM_SLOTS {
         let kept = read_counts(b, StreamNo(i as u16));
@@ -94,21 +118,19 @@ fn counts_held(b: &[u8], counts: [ShareCounts; STREAM_SLOTS]) -> bool
     true
 }
 
-// A row that names no slot of the streams table fails: no stream is used there, and the row is not zero.
-pub fn opens_consistent(b: &[u8]) -> bool
+// Each row by itself, and the handles. A row that names no slot of the streams table fails: no stream is used there, and the
+// row is not zero.
+fn rows_consistent(b: &[u8]) -> bool
     requires { ⌜ length (now b) ≡ tablesSize ⌝ }
     ensures { λ r.
-        let t = decode (now (b .entry)) in
-        let v = t .volume in
-        let rows = t .opens .rows in
-        ⌜ r ≡ (opensTest (namespace v .streams) (v .«next_handle» .0) rows && countsTest (v .streams) rows) ⌝ }
+        let v = decode (now (b .entry)) .volume in
+        ⌜ r ≡ opensTest (namespace v .streams) (v .«next_handle» .0) (decode (now (b .entry)) .opens .rows) ⌝ }
 {
     let next = read_next(b).0;
     if next == 0 {
         return false;
     }
     let mut keys = [0u64; OPEN_SLOTS];
-    let mut counts = [ZERO_COUNTS; STREAM_SLOTS];
     let mut i: usize = OPEN_SLOTS;
     while 0 < i {
         i -= 1;
@@ -120,15 +142,20 @@ pub fn opens_consistent(b: &[u8]) -> bool
             return false;
         }
         keys[i] = o.handle.0;
-        let n = stream.0 as usize;
-        if open_used(o) && n < STREAM_SLOTS {
-            let before = counts[n];
-            let after = with_open(o, before);
-            counts[n] = after;
-        }
     }
-    if !distinct(&keys) {
+    distinct(&keys)
+}
+
+pub fn opens_consistent(b: &[u8]) -> bool
+    requires { ⌜ length (now b) ≡ tablesSize ⌝ }
+    ensures { λ r.
+        let t = decode (now (b .entry)) in
+        let v = t .volume in
+        let rows = t .opens .rows in
+        ⌜ r ≡ (opensTest (namespace v .streams) (v .«next_handle» .0) rows && countsTest (v .streams) rows) ⌝ }
+{
+    if !rows_consistent(b) {
         return false;
     }
-    counts_held(b, counts)
+    counts_true(b)
 }
