@@ -1,6 +1,6 @@
 -- What the walks over a lent row of opens share. No field of Open is named: a walk takes from the type its machine value
--- (`vals`), that the relation tells it, that an open is Copy, and that the value has the MIR type. Of its size in memory
--- a walk knows that rows lie 24 bytes apart.
+-- (`vals`), that the relation tells it, that an open is Copy, and that the value has the MIR type, and its
+-- size in memory (`apart`).
 --     after                 the code after a body's first statement, for code that the generated MIR has under no name
 --     makes, typed          what an open owns is made from the relation, and its machine value has the MIR type
 --     held                  a row has from then on what was stored there
@@ -53,7 +53,11 @@ module _ {M : Type 1} (𝓤 : URA M) (H : Heap 𝓤) (A : Atoms 𝓤) where
   pub typed : Given 𝓤 H A → (o : Open) (v : Val) → Is R o (v ∷ []) → Holds (hasTy openTy v) × WT v
   typed W o v p = LL.lawful T.the-type T′.the-laws 𝓤 H A W .typed o (v ∷ []) p .0
 
-pub offset-fits : {n i : ℕ} → Room R n → i < n → i * 24 < 2 ^ 64
+-- how many bytes rows lie apart
+abbrev pub apart : ℕ
+apart = mem R .size
+
+pub offset-fits : {n i : ℕ} → Room R n → i < n → i * apart < 2 ^ 64
 offset-fits g l = omega (arith, g .1, l)
 
 abbrev pub after : Body → Body

@@ -49,7 +49,7 @@ use Rattle.open_table.proofs.OpenSlot.Laws as O′
 use Rattle.open_table.specs.Rows.{rowSlot}
 use Rattle.open_rows.specs.declared.Sought.{Sought}
 use Rattle.open_rows.specs.Search.{isSought}
-use Rattle.open_rows.proofs.Row.{R, openTy, vals, makes, typed, after, offset-fits, look-row, shut-row}
+use Rattle.open_rows.proofs.Row.{R, openTy, vals, makes, typed, after, apart, offset-fits, look-row, shut-row}
 use Rattle.open_rows.proofs.Sought as S
 use Rattle.open_rows.proofs.Sought.Laws as S′
 use Rattle.open_rows.proofs.is_sought as test
@@ -171,7 +171,7 @@ module _ {M : Type 1} (𝓤 : URA M) (H : Heap 𝓤) (A : Atoms 𝓤) (W : Given
           (λ less. skips ! $ exec ! C Λ E looked (anyQ (Turned i)) $
           assigns ! (bin ! (load ! (from ! (stop !)) (look ! 12 refl)) (lit ! tt) (record { fits = offset-fits gn (ltb→lt _ _ less) })) (from ! (stop !)) (store ! 10 refl (tt, record { fits = offset-fits gn (ltb→lt _ _ less) })) $
           assigns ! (bin ! (load ! (from ! (fld ! refl (stop !))) (look-in ! 16 (sub ! 0 refl (whole !)))) (load ! (from ! (stop !)) (look ! 10 refl)) tt) (from ! (stop !)) (init ! 4 refl (tt, tt)) $
-          rewrite ! 4 (λ (p : ℕ). ‵ (fat fullShare tyPtr l₇ 0 (vptr (x .ptr .0) p))) (sym (place-is 24 (x .ptr .1) (i .0))) refl $ move ! (1 ∷ 0 ∷ []) $
+          rewrite ! 4 (λ (p : ℕ). ‵ (fat fullShare tyPtr l₇ 0 (vptr (x .ptr .0) p))) (sym (place-is apart (x .ptr .1) (i .0))) refl $ move ! (1 ∷ 0 ∷ []) $
           look-row ! tt x (slice-vals x) (i .0) zeroOpen (ltb→lt _ _ less) (λ q′ g.
           -- [row[i]; what it owns; the others; what shuts; what row owns; _8; …; _7; …; …]
           assigns ! (of-opd ! (load ! (from ! (hop ! (look ! 7 refl) (stop !))) (look-raw ! 0 refl))) (from ! (stop !)) (init ! 5 refl (typed 𝓤 H A W (open-at i) _ g)) $

@@ -36,7 +36,7 @@ use denote.Triple.Spec.{Meets, tripleOf}
 use denote.Triple.Table.{entered}
 use denote.Triple.Walked.{says, Stays, stay-none-slice, stay-none, walkOf, AllGo, goes-none-slice, goes-none, Walks, ends-at, walked, walk-meets}
 use denote.Exit.{yes}
-use Rattle.open_rows.proofs.Row.{R, openTy, vals, val, tells, makes, typed, offset-fits, look-row, shut-row}
+use Rattle.open_rows.proofs.Row.{R, openTy, vals, val, tells, makes, typed, apart, offset-fits, look-row, shut-row}
 use Rattle.open_rows.proofs.open_at.Key.{name as #open-at}
 use Rattle.open_rows.proofs.open_at as f
 use Rattle.open_rows.proofs.open_at.Statement as stated
@@ -107,7 +107,7 @@ module _ {M : Type 1} (𝓤 : URA M) (H : Heap 𝓤) (A : Atoms 𝓤) (W : Given
           (λ less.
           assigns ! (bin ! (load ! (from ! (stop !)) (look ! 14 refl)) (lit ! tt) (record { fits = offset-fits gn (ltb→lt _ _ less) })) (from ! (stop !)) (init ! 4 refl (tt, record { fits = offset-fits gn (ltb→lt _ _ less) })) $
           assigns ! (bin ! (load ! (from ! (fld ! refl (stop !))) (look-in ! 16 (sub ! 0 refl (whole !)))) (load ! (from ! (stop !)) (look ! 4 refl)) tt) (from ! (stop !)) (init ! 2 refl (tt, tt)) $
-          rewrite ! 2 (λ (p : ℕ). ‵ (fat fullShare tyPtr l₈ 0 (vptr (x .ptr .0) p))) (sym (place-is 24 (x .ptr .1) i)) refl $ move ! (20 ∷ 21 ∷ []) $
+          rewrite ! 2 (λ (p : ℕ). ‵ (fat fullShare tyPtr l₈ 0 (vptr (x .ptr .0) p))) (sym (place-is apart (x .ptr .1) i)) refl $ move ! (20 ∷ 21 ∷ []) $
           look-row ! tt x (slice-vals x) i d (ltb→lt _ _ less) (λ q′ g.
           -- [row[i]; what it owns; the others; what shuts; what row owns; _9; …; _8; …; …]
           assigns ! (of-opd ! (load ! (from ! (hop ! (look ! 7 refl) (stop !))) (look-raw ! 0 refl))) (from ! (stop !)) (init ! 5 refl (typed 𝓤 H A W (getD (x .now) i d) _ g)) $

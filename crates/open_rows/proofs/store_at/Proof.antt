@@ -40,7 +40,7 @@ use denote.Triple.Spec.{Meets, tripleOf}
 use denote.Triple.Table.{entered}
 use denote.Triple.Walked.{says, Stays, stay-slice, stay-none, walkOf, AllGo, goes-slice, goes-none, Walks, ends-at, walked, walk-meets}
 use denote.Exit.{yes}
-use Rattle.open_rows.proofs.Row.{R, openTy, vals, val, tells, makes, typed, offset-fits}
+use Rattle.open_rows.proofs.Row.{R, openTy, vals, val, tells, makes, typed, apart, offset-fits}
 use Rattle.open_rows.proofs.store_at.Key.{name as #store-at}
 use Rattle.open_rows.proofs.store_at as f
 use Rattle.open_rows.proofs.store_at.Statement as stated
@@ -113,7 +113,7 @@ module _ {M : Type 1} (𝓤 : URA M) (H : Heap 𝓤) (A : Atoms 𝓤) (W : Given
           (λ less.
           assigns ! (bin ! (load ! (from ! (stop !)) (look ! 10 refl)) (lit ! tt) (record { fits = offset-fits gn (ltb→lt _ _ less) })) (from ! (stop !)) (init ! 2 refl (tt, record { fits = offset-fits gn (ltb→lt _ _ less) })) $
           assigns ! (bin ! (load ! (from ! (fld ! refl (stop !))) (look-in ! 12 (sub ! 0 refl (whole !)))) (load ! (from ! (stop !)) (look ! 2 refl)) tt) (from ! (stop !)) (init ! 0 refl (tt, tt)) $
-          rewrite ! 0 (λ (p : ℕ). ‵ (fat fullShare tyPtr l₇ 0 (vptr (x .ptr .0) p))) (sym (place-is 24 (x .ptr .1) i)) refl $ move ! (16 ∷ 17 ∷ 18 ∷ []) $
+          rewrite ! 0 (λ (p : ℕ). ‵ (fat fullShare tyPtr l₇ 0 (vptr (x .ptr .0) p))) (sym (place-is apart (x .ptr .1) i)) refl $ move ! (16 ∷ 17 ∷ 18 ∷ []) $
           opens-slice ! tt R (x .now) (x .ptr .0) (x .ptr .1) $ elem-out ! R (Is R) (shows 𝓤 H A R) vals tells fullShare (x .now) i d (x .ptr .0) (x .ptr .1) (ltb→lt _ _ less) (λ _.
           -- [row[i]; what it owns; the others; the open borrow; obs; auth; _7; …; _6; …; …]
           assigns-last ! (of-opd ! (load ! (from ! (stop !)) (look ! 14 refl))) (from ! (hop ! (look ! 6 refl) (stop !))) (store-raw ! 0 refl (typed 𝓤 H A W d _ gd)) $
