@@ -45,19 +45,10 @@ fn store_at(row: &mut [Open], i: usize, o: Open)
 fn conflicts_with(o: Open, granted: u32, share: u32) -> bool
     ensures { λ r. ⌜ r ≡ conflict (termsOf o) (record { granted = granted; share = share }) ⌝ }
 {
-    let handle = o.handle;
-    let file = o.file;
-    let stream = o.stream;
-    conflicting(
-        o,
-        Open {
-            handle,
-            file,
-            stream,
-            granted,
-            share,
-        },
-    )
+    let mut new = o;
+    new.granted = granted;
+    new.share = share;
+    conflicting(o, new)
 }
 
 // The open is one that is sought. A free row is none.

@@ -1,5 +1,5 @@
 -- `open_rows::conflict_on` meets its contract: a row is found where some live open on the stream conflicts.
-use Rattle.base.{specs.Base.{_≡_, ℕ, Bool, true, false, List, none, some, _&&_, any, first, openUsed, Open}, proofs.Laws.{needs, sym, _∙_, any-keep, found-iff, none-iff}}
+use Rattle.base.proofs.Laws.{needs, sym, _∙_, any-keep, found-iff, none-iff}
 use Rattle.tables.specs.Tables.{live}
 use Rattle.open_table.specs.Rows.{rowSlot}
 use Rattle.sharing.specs.Sharing.{anyConflict}

@@ -1,8 +1,8 @@
 -- `open_rows::store_at` meets its contract: a walk of its MIR, by hand. Where the row has the number, the borrow is opened,
 -- the open is stored over the one that lies there, and the borrow is closed at the list with it. Both ways end in `leaves`.
 -- An open has padding in memory, so it is stored whole, at the raw form of its type (`store-raw`).
-use Rattle.base.specs.Base.{ℕ, _*_, _<_, _≡_, List, [], _∷_, length, set, Open}
-use Rattle.base.proofs.Laws.{sym, arith, length-set}
+use Rattle.base.specs.Base.{ℕ, _<_, _≡_, List, [], _∷_, length, set, Open}
+use Rattle.base.proofs.Laws.{sym, length-set}
 use mathlib.Core.Path.{refl, ap, subst}
 use Prim.Native.Nat.{_^_}
 use lib.Dec.{ltb→lt, nltb→le}
@@ -35,23 +35,17 @@ use denote.Ref.{RefT}
 use denote.Signature.{plain}
 use denote.Slice.{sliceTy, sliceVal, MutSlice, heres, Room, slice-vals, mut-slice-tells, at-slice, codedHoleys}
 use denote.Steps.{owned, nothing}
-use denote.Struct.Laws as LL
 use denote.Triple.Entry.{Vals, onEntry}
 use denote.Triple.Spec.{Meets, tripleOf}
 use denote.Triple.Table.{entered}
 use denote.Triple.Walked.{says, Stays, stay-slice, stay-none, walkOf, AllGo, goes-slice, goes-none, Walks, ends-at, walked, walk-meets}
 use denote.Exit.{yes}
-use Rattle.records.proofs.Open as T
-use Rattle.records.proofs.Open.Laws as T′
-use Rattle.open_rows.proofs.Row.{R, vals, val, tells}
+use Rattle.open_rows.proofs.Row.{R, openTy, vals, val, tells, makes, typed, apart, offset-fits}
 use Rattle.open_rows.proofs.store_at.Key.{name as #store-at}
 use Rattle.open_rows.proofs.store_at as f
 use Rattle.open_rows.proofs.store_at.Statement as stated
 use Rattle.open_rows.proofs.store_at.Code as code
 use Rattle.open_rows.proofs.store_at.Code.Mir as mir
-
-abbrev record′ : Ty
-record′ = T′.mir
 
 abbrev slice : Ty
 slice = sliceTy (tyRef (named 0) mut (pointee (R .written)))
@@ -80,18 +74,18 @@ module _ {M : Type 1} (𝓤 : URA M) (H : Heap 𝓤) (A : Atoms 𝓤) (W : Given
         suffices ! _ (ends-at 𝓤 H A f.ended stayed (f.clauses 𝓤 H A at-mem run) W (((κ, tt), (q, tt), tt, (x, (i, (d, tt))), at), tt) vunit tt (ys, (tt, (tt, tt))) (n, (tt, (tt, tt)))) $ says ! e $
         nothing ! $ move ! (3 ∷ 0 ∷ []) $ join ! $ frame ! $ fjoin ! $
         pureI ! (at-slice R (record { ptr = x .ptr; name = x .name; now = ys }) (slice-vals x)) (tt, (tt, tt)) (ap (λ (m : ℕ). sliceVal (x .ptr) m ∷ []) (sym n), subst (Room R) (sym n) gn) $ fjoin ! $
-        nothing ! $ owned ! R (Is R) (LL.makes T.the-type T′.the-plain 𝓤 H A) d (vals d) gd $ fjoin ! $
+        nothing ! $ owned ! R (Is R) (makes 𝓤 H A) d (vals d) gd $ fjoin ! $
         owned ! usize (Is usize) (uint-makes 𝓤 H A W w64) i (vint w64 i ∷ []) (refl, gi) $ fjoin ! $ move ! (1 ∷ 0 ∷ []) $ fjoin ! $ frame ! $
         feqI ! (List Val) (vunit ∷ []) (vunit ∷ []) refl $ done !
 
     module _ (C : Calls 𝓤 H) (Λ : Loops 𝓤 H) (l₀ l₁ l₂ l₃ l₄ l₅ l₆ l₇ : ℕ) where
       abbrev E : Env 𝓤 H
-      E = (tyUnit, l₀) ∷ (slice, l₁) ∷ (word, l₂) ∷ (record′, l₃) ∷ (word, l₄) ∷ (tyBool, l₅) ∷ (word, l₆) ∷ (tyPtr, l₇) ∷ []
+      E = (tyUnit, l₀) ∷ (slice, l₁) ∷ (word, l₂) ∷ (openTy, l₃) ∷ (word, l₄) ∷ (tyBool, l₅) ∷ (word, l₆) ∷ (tyPtr, l₇) ∷ []
 
       -- after the branch
       abbrev After : List Open → List (Item 𝓤)
       After ys = Left ys (‵ (froom tyPtr l₇ 0) ∷ ‵ (fdies tyPtr l₇) ∷ ‵ (froom word l₆ 0) ∷ ‵ (fdies word l₆) ∷ ‵ (froom tyBool l₅ 0) ∷ ‵ (fdies tyBool l₅)
-          ∷ ‵ (froom word l₄ 0) ∷ ‵ (fdies word l₄) ∷ ‵ (fat fullShare record′ l₃ 0 (val d)) ∷ ‵ (fdies record′ l₃) ∷ ‵ (fat fullShare word l₂ 0 (vint w64 i)) ∷ ‵ (fdies word l₂)
+          ∷ ‵ (froom word l₄ 0) ∷ ‵ (fdies word l₄) ∷ ‵ (fat fullShare openTy l₃ 0 (val d)) ∷ ‵ (fdies openTy l₃) ∷ ‵ (fat fullShare word l₂ 0 (vint w64 i)) ∷ ‵ (fdies word l₂)
           ∷ ‵ (fat fullShare slice l₁ 0 (sliceVal (x .ptr) (length (x .now)))) ∷ ‵ (fdies slice l₁) ∷ ‵ (froom tyUnit l₀ 0) ∷ ‵ (fdies tyUnit l₀) ∷ [])
 
       -- the function returns, and the locals are freed
@@ -112,19 +106,19 @@ module _ {M : Type 1} (𝓤 : URA M) (H : Heap 𝓤) (A : Atoms 𝓤) (W : Given
           enter ! C Λ code.function (sliceVal (x .ptr) (length (x .now)) ∷ vint w64 i ∷ val d ∷ []) _ $
           alloc1 ! (λ l₀. alloc1 ! (λ l₁. alloc1 ! (λ l₂. alloc1 ! (λ l₃. alloc1 ! (λ l₄. alloc1 ! (λ l₅. alloc1 ! (λ l₆. alloc1 ! (λ l₇. alloc0 ! $ params1 ! $
           pass1 ! (init ! 12 refl (tt, (tt, (record { fits = gn .0 }, tt)))) $ pass1 ! (init ! 10 refl (tt, record { fits = gi })) $
-          pass1 ! (init ! 8 refl (LL.lawful T.the-type T′.the-laws 𝓤 H A W .typed d (vals d) gd .0)) $ pass0 ! $
+          pass1 ! (init ! 8 refl (typed 𝓤 H A W d _ gd)) $ pass0 ! $
           assigns ! (of-opd ! (load ! (from ! (fld ! refl (stop !))) (look-in ! 12 (sub ! 1 refl (whole !))))) (from ! (stop !)) (init ! 6 refl (tt, record { fits = gn .0 })) $
           assigns ! (bin ! (load ! (from ! (stop !)) (look ! 10 refl)) (load ! (from ! (stop !)) (look ! 6 refl)) tt) (from ! (stop !)) (init ! 4 refl (tt, tt)) $
           first ! $ branches ! (load ! (from ! (stop !)) (look ! 4 refl))
           (λ less.
-          assigns ! (bin ! (load ! (from ! (stop !)) (look ! 10 refl)) (lit ! tt) (record { fits = bytes (ltb→lt _ _ less) })) (from ! (stop !)) (init ! 2 refl (tt, record { fits = bytes (ltb→lt _ _ less) })) $
+          assigns ! (bin ! (load ! (from ! (stop !)) (look ! 10 refl)) (lit ! tt) (record { fits = offset-fits gn (ltb→lt _ _ less) })) (from ! (stop !)) (init ! 2 refl (tt, record { fits = offset-fits gn (ltb→lt _ _ less) })) $
           assigns ! (bin ! (load ! (from ! (fld ! refl (stop !))) (look-in ! 12 (sub ! 0 refl (whole !)))) (load ! (from ! (stop !)) (look ! 2 refl)) tt) (from ! (stop !)) (init ! 0 refl (tt, tt)) $
-          rewrite ! 0 (λ (p : ℕ). ‵ (fat fullShare tyPtr l₇ 0 (vptr (x .ptr .0) p))) (sym (place-is 24 (x .ptr .1) i)) refl $ move ! (16 ∷ 17 ∷ 18 ∷ []) $
+          rewrite ! 0 (λ (p : ℕ). ‵ (fat fullShare tyPtr l₇ 0 (vptr (x .ptr .0) p))) (sym (place-is apart (x .ptr .1) i)) refl $ move ! (16 ∷ 17 ∷ 18 ∷ []) $
           opens-slice ! tt R (x .now) (x .ptr .0) (x .ptr .1) $ elem-out ! R (Is R) (shows 𝓤 H A R) vals tells fullShare (x .now) i d (x .ptr .0) (x .ptr .1) (ltb→lt _ _ less) (λ _.
           -- [row[i]; what it owns; the others; the open borrow; obs; auth; _7; …; _6; …; …]
-          assigns-last ! (of-opd ! (load ! (from ! (stop !)) (look ! 14 refl))) (from ! (hop ! (look ! 6 refl) (stop !))) (store-raw ! 0 refl (LL.lawful T.the-type T′.the-laws 𝓤 H A W .typed d (vals d) gd .0)) $
+          assigns-last ! (of-opd ! (load ! (from ! (stop !)) (look ! 14 refl))) (from ! (hop ! (look ! 6 refl) (stop !))) (store-raw ! 0 refl (typed 𝓤 H A W d _ gd)) $
           exec ! C Λ (E C Λ l₀ l₁ l₂ l₃ l₄ l₅ l₆ l₇) mir.t-4 (atRet (E C Λ l₀ l₁ l₂ l₃ l₄ l₅ l₆ l₇) Post) $
-          move ! (1 ∷ []) $ drop ! $ owned ! R (Is R) (LL.makes T.the-type T′.the-plain 𝓤 H A) d (vals d) gd $ move ! (1 ∷ 0 ∷ []) $
+          move ! (1 ∷ []) $ drop ! $ owned ! R (Is R) (makes 𝓤 H A) d (vals d) gd $ move ! (1 ∷ 0 ∷ []) $
           elem-put ! R fullShare (x .now) i d (vals d) (x .ptr .0) (x .ptr .1) (ltb→lt _ _ less) $
           closes-slice ! tt R (x .now) (set (x .now) i d) (length-set (x .now) i d) (x .ptr .0) (x .ptr .1) $
           forget ! 3 refl $ forget ! 5 refl $ forget ! 7 refl $ forget ! 9 refl $
@@ -133,9 +127,6 @@ module _ {M : Type 1} (𝓤 : URA M) (H : Heap 𝓤) (A : Atoms 𝓤) (W : Given
           skips ! $ exec ! C Λ (E C Λ l₀ l₁ l₂ l₃ l₄ l₅ l₆ l₇) mir.t-4 (atRet (E C Λ l₀ l₁ l₂ l₃ l₄ l₅ l₆ l₇) Post) $
           move ! (16 ∷ 17 ∷ 18 ∷ []) $ forget ! 7 refl $ forget ! 9 refl $
           leaves C Λ l₀ l₁ l₂ l₃ l₄ l₅ l₆ l₇ (x .now) refl (sym (set-out (x .now) i d (nltb→le _ _ over))))))))))))
-        where
-          bytes : i < length (x .now) → i * 24 < 2 ^ 64
-          bytes l = omega (arith, gn .1, l)
 
 module _ {M : Type 1} (𝓤 : URA M) (H : Heap 𝓤) (A : Atoms 𝓤) (W : Given 𝓤 H A) (at-mem : Memory → SProp 𝓤) (run : Routine → Fun 𝓤) where
   store-at-walks : (C : Calls 𝓤 H) (Λ : Loops 𝓤 H) → Walks 𝓤 H A f.ended stayed (WpFn 𝓤 H C Λ code.function) (f.clauses 𝓤 H A at-mem run)
