@@ -10,8 +10,9 @@ unfolding isKey nameKey
 name-is-key number us = not-is (ne-eqb (nameKey number us) 0 (λ e. let z : ⊥ = omega arith in z))
 
 module _ {A : Type 0} (used : A → Bool) (number : A → ℕ) (name : A → List ℕ) where
+  -- the key of a slot, by the units of its name
   abbrev pub keyOf : A → ℕ
-  keyOf x = slotKey (used x) (number x) (name x)
+  keyOf x = slotKey (used x) (number x) (units (name x))
 
   -- two slots differ in number or name
   abbrev pub namesDiffer : A → A → Bool

@@ -1,11 +1,11 @@
 -- `audit_links::links_consistent` meets its contract. The invariant: the links from i on are passed. Then the names and the
 -- files are the other parts of the test.
-use Rattle.base.{specs.Base.{_-_, _<_, _≡_, Bool, true, getD, linkUsed, zeroLink, FileType, Link, Tables, fileSlots}, proofs.Laws.{sym, ap, ap₂, _∙_, ⊎-elim, arith, needs, not-true, not-false}}
+use Rattle.base.{specs.Base.{_-_, _<_, _≡_, Bool, true, getD, linkUsed, zeroLink, FileType, Link, Tables, fileNameLimit, fileSlots}, proofs.Laws.{sym, ap, ap₂, _∙_, ⊎-elim, arith, needs, not-true, not-false}}
 use Rattle.consistency.specs.{Slots.slotTest, Good.{goodLink, isZeroLink}}
 use Rattle.layout.{specs.Layout.decode, proofs.Lengths.{files-count, links-count}}
-use Rattle.name_keys.specs.NameKeys.{slotKey}
+use Rattle.name_keys.{specs.NameKeys.slotKey, proofs.Weights.key-stored}
 use Rattle.tables.specs.Tables.{linkAt}
-use Rattle.audit_links.proofs.{Links.{linkTest, file-there}, Pass.{Passed, linkKey, pass-none, pass-fails, pass-free, pass-used, count-fits, pass-names, pass-alike, pass-ends}, links_consistent.Statement.statement}
+use Rattle.audit_links.proofs.{Links.{linkTest, file-there, name-stored}, Pass.{Passed, linkKey, pass-none, pass-fails, pass-free, pass-used, count-fits, pass-names, pass-alike, pass-ends}, links_consistent.Statement.statement}
 use Rattle.audit_links.proofs.links_consistent.Tie as tie
 
 abbrev Inv-loop : tie.InvT-loop
@@ -46,13 +46,17 @@ returns c =
 -- it passes, and its key is kept
 module _ (c : tie.After-slot-key Inv-loop μ-loop) where
   abbrev seen : tie.After-slot-consistent Inv-loop μ-loop
-  seen = c .before .before .before .before .before
+  seen = c .before .before .before .before
 
   passes : linkTest (state seen .volume .files) (link seen) ≡ true
-  passes = sym (tested seen) ∙ not-false (seen .slot-consistent .result) (c .before .before .before .before .if1 .left)
+  passes = sym (tested seen) ∙ not-false (seen .slot-consistent .result) (c .before .before .before .if1 .left)
 
   key : c .slot-key .result ≡ linkKey (link seen)
-  key = c .slot-key .ensures ∙ ap (λ (u : Bool). slotKey u (link seen .parent .0) (link seen .name)) (c .before .before .link-used .ensures)
+  key =
+      c .slot-key .ensures
+      ∙ ap (λ (u : Bool). slotKey u (link seen .parent .0) (link seen .name)) (c .before .link-used .ensures)
+      ∙ key-stored fileNameLimit (linkUsed (link seen)) (link seen .parent .0) (link seen .name)
+      (λ u. name-stored (state seen .volume .files) (link seen) u passes)
 
 -- a used one is noted at its file's number
 module _ (c : tie.After-struct-known Inv-loop μ-loop) where
@@ -60,7 +64,7 @@ module _ (c : tie.After-struct-known Inv-loop μ-loop) where
   noted = seen (c .before .before)
 
   used : linkUsed (link noted) ≡ true
-  used = sym (c .before .before .before .before .link-used .ensures) ∙ c .before .if2 .taken
+  used = sym (c .before .before .before .link-used .ensures) ∙ c .before .if2 .taken
 
   below : link noted .file .0 < fileSlots
   below =
@@ -79,7 +83,7 @@ loop-again-2 : tie.Need-loop-again-2 Inv-loop μ-loop
 loop-again-2 c =
     let s = seen (c .before) in
     pass-free (turn s .loop .inv) (omega arith) (is-link s) (passes (c .before)) (key (c .before))
-    (sym (c .before .before .before .link-used .ensures) ∙ c .if2 .left)
+    (sym (c .before .before .link-used .ensures) ∙ c .if2 .left)
 
 returns-2 : tie.Need-returns-2 Inv-loop μ-loop
 returns-2 c =
@@ -114,7 +118,6 @@ links-consistent-spec =
     (λ c κs. search needs)
     returns
     (λ c κs. search needs)
-    (λ c. search needs)
     (λ c κs. search needs)
     (λ c. search needs)
     (λ c. search needs)

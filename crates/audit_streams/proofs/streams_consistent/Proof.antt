@@ -1,8 +1,9 @@
 -- `audit_streams::streams_consistent` meets its contract. The invariant: the streams from i on were passed.
-use Rattle.base.{specs.Base.{_-_, _≡_, inl, inr, getD, isEmpty, fileSlots, streamUsed, zeroBare, bare, bareAt, bareUsed}, proofs.Laws.{refl, sym, _∙_, ⊎-elim, arith, needs, not-true, not-false, ltb-true, ltb-false}}
+use Rattle.base.{specs.Base.{_-_, _≡_, inl, inr, getD, isEmpty, fileSlots, streamNameLimit, streamUsed, zeroBare, bare, bareAt, bareUsed}, proofs.Laws.{refl, sym, _∙_, ⊎-elim, arith, needs, not-true, not-false, ltb-true, ltb-false}}
 use Rattle.layout.{specs.Layout.decode, proofs.Lengths.files-count}
 use Rattle.stored_names.specs.StoredNames.{units}
-use Rattle.audit_streams.proofs.{Streams.{streams, streams-long, stream-read}, Pass.{streamTest, streamKey, Passed, pass-begins, every-room, unnamed-room, pass-fails, pass-skips, pass-adds, names-settled, names-fail, pass-ends}, streams_consistent.Statement.statement}
+use Rattle.name_keys.proofs.Weights.{key-stored}
+use Rattle.audit_streams.proofs.{Streams.{streams, streams-long, stream-read}, Pass.{streamTest, streamKey, name-stored, Passed, pass-begins, every-room, unnamed-room, pass-fails, pass-skips, pass-adds, names-settled, names-fail, pass-ends}, streams_consistent.Statement.statement}
 use Rattle.audit_streams.proofs.streams_consistent.Tie as tie
 
 abbrev Inv-loop : tie.InvT-loop
@@ -31,10 +32,16 @@ tested c = rw (← c .before .read-file-type .ensures) (c .slot-consistent .ensu
 
 -- and its key is that of its name
 key : (c : tie.After-slot-key Inv-loop μ-loop) →
-    let s = c .before .before .before .before .before .before .before .before in
+    let s = c .before .before .before .before .before .before .before in
     c .slot-key .result ≡ streamKey (bare (s .read-stream .result))
 unfolding bare bareUsed streamUsed
-key c = rw (← c .before .before .stream-used .ensures) (c .slot-key .ensures)
+key c =
+    let t = c .before .before .before .before in
+    let s = t .before .before .before in
+    let q = s .read-stream .result in
+    rw (← c .before .stream-used .ensures) (c .slot-key .ensures)
+    ∙ key-stored streamNameLimit (streamUsed q) (q .file .0) (q .name)
+    (λ u. name-stored _ (bare q) u (sym (tested t) ∙ not-false _ (c .before .before .before .if1 .left)))
 
 returns : tie.Need-returns Inv-loop μ-loop
 returns c =
@@ -46,7 +53,7 @@ returns c =
 
 add-all : tie.Need-add-all Inv-loop μ-loop
 add-all c =
-    let s = c .before .before .before .before .before .before .before .before .before .before .before .before in
+    let s = c .before .before .before .before .before .before .before .before .before .before .before in
     let l = s .before .before in
     let n = s .read-stream .result .file .0 in
     let room = every-room (l .loop .inv) n (ltb-true n fileSlots (c .if3 .taken)) in
@@ -55,7 +62,7 @@ add-all c =
 add-unnamed : tie.Need-add-unnamed Inv-loop μ-loop
 add-unnamed c =
     let f = c .before .before in
-    let s = f .before .before .before .before .before .before .before .before .before .before .before .before in
+    let s = f .before .before .before .before .before .before .before .before .before .before .before in
     let l = s .before .before in
     let n = s .read-stream .result .file .0 in
     let room =
@@ -68,11 +75,11 @@ unfolding bare bareUsed streamUsed
 loop-again c =
     let u = c .before .before .before .before in
     let k = u .before .before in
-    let t = k .before .before .before .before .before in
+    let t = k .before .before .before .before in
     let s = t .before .before .before in
     let l = s .before .before in
     pass-adds (l .loop .inv) (omega arith) (bare (s .read-stream .result)) (here s)
-    (sym (tested t) ∙ not-false _ (k .before .before .before .before .if1 .left)) (key k)
+    (sym (tested t) ∙ not-false _ (k .before .before .before .if1 .left)) (key k)
     (sym (u .stream-used2 .ensures) ∙ c .before .before .before .if2 .taken) (ltb-true _ fileSlots (c .before .before .if3 .taken))
     (c .one-if-unnamed .ensures)
 
@@ -81,11 +88,11 @@ unfolding bare bareUsed streamUsed
 loop-again-2 c =
     let u = c .before in
     let k = u .before .before in
-    let t = k .before .before .before .before .before in
+    let t = k .before .before .before .before in
     let s = t .before .before .before in
     let l = s .before .before in
     pass-skips (l .loop .inv) (omega arith) (bare (s .read-stream .result)) (here s)
-    (sym (tested t) ∙ not-false _ (k .before .before .before .before .if1 .left)) (key k)
+    (sym (tested t) ∙ not-false _ (k .before .before .before .if1 .left)) (key k)
     (⊎-elim (λ w. inr (ltb-false _ fileSlots (w .1 .left))) (λ w. inl (sym (u .stream-used2 .ensures) ∙ w .left)) (c .if2 .came))
 
 slice-aggregate-distinct : tie.Need-slice-aggregate-distinct Inv-loop μ-loop
@@ -124,7 +131,6 @@ streams-consistent-spec =
     (λ c κs. search needs)
     returns
     (λ c κs. search needs)
-    (λ c. search needs)
     (λ c κs. search needs)
     (λ c. search needs)
     (λ c. search needs)
