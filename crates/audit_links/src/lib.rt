@@ -2,7 +2,7 @@
 // file, and each file's parent. Then the names, by their keys, and the links and the parents of each file. The pass goes
 // from the last link to the first, as the definitions go through them.
 use distinct::distinct;
-use name_keys::slot_key;
+use name_keys::name_key;
 use name_tests::good_file_name;
 use records::FileNo;
 use records::FileType;
@@ -198,7 +198,7 @@ pub fn links_consistent(b: &[u8]) -> bool
         }
         let name = l.name;
         let used = link_used(l);
-        keys[i] = slot_key(used, parent.0, name);
+        keys[i] = if used { name_key(parent.0, name) } else { 0 };
         if used {
             let f = file.0 as usize;
             counts[f] = counts[f] + 1;

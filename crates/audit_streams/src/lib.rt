@@ -2,7 +2,7 @@
 // its name, and of each file how many streams it has and how many of them without a name. Then the names, by their keys, and
 // the streams of each file.
 use distinct::distinct;
-use name_keys::slot_key;
+use name_keys::name_key;
 use name_tests::good_stream_name;
 use records::FileNo;
 use records::FileType;
@@ -157,9 +157,10 @@ pub fn streams_consistent(b: &[u8]) -> bool
             return false;
         }
         let name = s.name;
-        keys[i] = slot_key(stream_used(s), file.0, name);
+        let used = stream_used(s);
+        keys[i] = if used { name_key(file.0, name) } else { 0 };
         let f = file.0 as usize;
-        if stream_used(s) && f < FILE_SLOTS {
+        if used && f < FILE_SLOTS {
             all[f] = all[f] + 1;
             unnamed[f] = unnamed[f] + one_if_unnamed(&name);
         }

@@ -1,5 +1,5 @@
 -- The weights of a name's units: a place more, and none for the zeros after a well stored name.
-use Rattle.base.{specs.Base.{ℕ, zero, suc, _+_, _*_, _-_, _≤_, _<_, _≡_, Bool, true, List, [], _∷_, _++_, length, getD, drop, replicate, padded}, proofs.Laws.{refl, _∙_, ap, arith, by-cases, drop-next, drop-of-length-le, same-is}}
+use Rattle.base.{specs.Base.{ℕ, zero, suc, _+_, _*_, _-_, _≤_, _<_, _≡_, Bool, true, false, List, [], _∷_, _++_, length, getD, drop, replicate, padded}, proofs.Laws.{refl, _∙_, ap, arith, drop-next, drop-of-length-le, same-is}}
 use Prim.Native.Nat.{_/_, _%_}
 use native.Mathlib.Nat.{mul-le-mul}
 use Rattle.stored_names.specs.StoredNames.{units, wellStored}
@@ -41,7 +41,12 @@ unfolding wellStored padded
 weighed-stored limit n h =
     ap (weighedFrom 0) (same-is n (padded limit (units n)) h) ∙ weighed-padded 0 (units n) (limit - length (units n))
 
-pub key-stored : (limit : ℕ) (used : Bool) (number : ℕ) (n : List ℕ) → (used ≡ true → wellStored limit n ≡ true)
-    → slotKey used number n ≡ slotKey used number (units n)
-unfolding slotKey nameKey
-key-stored limit used number n h = by-cases used (λ e. rw (e, weighed-stored limit n (h e))) (λ e. rw e)
+module _ {used : Bool} where
+  pub key-used : (limit : ℕ) → used ≡ true → (number : ℕ) (n : List ℕ) → wellStored limit n ≡ true → nameKey number n ≡ slotKey used number (units n)
+  unfolding slotKey nameKey
+  key-used limit u number n h = rw (u, weighed-stored limit n h)
+
+  -- and a free slot none
+  pub key-free : used ≡ false → (number : ℕ) (us : List ℕ) → 0 ≡ slotKey used number us
+  unfolding slotKey
+  key-free u number us = rw u

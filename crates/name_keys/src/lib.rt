@@ -3,7 +3,7 @@
 use records::sizes::FILE_NAME_LIMIT;
 ghost use mathlib.Core.Path.{_≡_};
 ghost use Prim.Native.Nat.{_≤_};
-ghost use Rattle.name_keys.specs.NameKeys.{weighed, nameKey, slotKey};
+ghost use Rattle.name_keys.specs.NameKeys.{weighed, nameKey};
 
 // The weights of the units' bytes, by place: odd numbers of 15 bits, without any order.
 const LOW: [u16; FILE_NAME_LIMIT] = [
@@ -96,11 +96,4 @@ pub fn name_key(number: u16, name: [u16; FILE_NAME_LIMIT]) -> u64
         i += 1;
     }
     number as u64 * 0x1_0000_0000 + sum as u64 + 1
-}
-
-// The key of a slot. A free one has none.
-pub fn slot_key(used: bool, number: u16, name: [u16; FILE_NAME_LIMIT]) -> u64
-    ensures { λ r. ⌜ r ≡ slotKey used number name ⌝ }
-{
-    if used { name_key(number, name) } else { 0 }
 }
