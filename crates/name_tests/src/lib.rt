@@ -89,8 +89,8 @@ pub fn good_file_name(name: [u16; FILE_NAME_LIMIT]) -> bool
 pub fn good_stream_name(name: [u16; STREAM_NAME_LIMIT]) -> bool
     ensures { λ r. ⌜ r ≡ goodStreamName name ⌝ }
 {
-    if name[0] == 0 {
-        return zero_name(&name);
+    if name[0] != 0 {
+        return well_stored(name) & zeros_or_valid(name);
     }
-    well_stored(name) & zeros_or_valid(name)
+    zero_name(&name)
 }
