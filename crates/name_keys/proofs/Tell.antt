@@ -2,7 +2,8 @@
 use Rattle.base.{specs.Base.{ℕ, _≡_, Bool, true, not, _&&_, List, map, eqb, same, keep, pairs}, proofs.Laws.{ap₂, arith, eqb-true, ne-eqb, not-is, not-false, by-cases, and-left, and-right, same-is}}
 use Rattle.distinct.{specs.Keys.{isKey, differ}, proofs.Tells.{Tells, told}}
 use Rattle.stored_names.specs.StoredNames.{units}
-use Rattle.name_keys.specs.NameKeys.{nameKey, slotKey}
+use Rattle.name_keys.specs.NameKeys.{nameKey}
+use Rattle.name_keys.proofs.Weights.{slotKey}
 
 -- a name has a key
 name-is-key : (number : ℕ) (us : List ℕ) → isKey (nameKey number us) ≡ true

@@ -1,9 +1,12 @@
 -- The weights of a name's units: a place more, and none for the zeros after a well stored name.
-use Rattle.base.{specs.Base.{ℕ, zero, suc, _+_, _*_, _-_, _≤_, _<_, _≡_, Bool, true, false, List, [], _∷_, _++_, length, getD, drop, replicate, padded}, proofs.Laws.{refl, _∙_, ap, arith, drop-next, drop-of-length-le, same-is}}
-use Prim.Native.Nat.{_/_, _%_}
+use Rattle.base.{specs.Base.{ℕ, zero, suc, _+_, _*_, _-_, _≤_, _<_, _≡_, Bool, true, false, cond, List, [], _∷_, _++_, length, getD, drop, replicate, padded}, proofs.Laws.{refl, _∙_, ap, arith, drop-next, drop-of-length-le, same-is}}
 use native.Mathlib.Nat.{mul-le-mul}
 use Rattle.stored_names.specs.StoredNames.{units, wellStored}
-use Rattle.name_keys.specs.NameKeys.{lowWeights, highWeights, weighed, weighedFrom, nameKey, slotKey}
+use Rattle.name_keys.specs.NameKeys.{lowWeights, highWeights, weighed, weighedFrom, nameKey}
+
+-- the key of a slot: a free one has none
+unfoldable pub slotKey : Bool → ℕ → List ℕ → ℕ
+slotKey used number us = cond used (nameKey number us) 0
 
 -- a byte's share
 pub byte-bound : (byte weight : ℕ) → byte ≤ 255 → weight ≤ 65535 → byte * weight ≤ 16711425

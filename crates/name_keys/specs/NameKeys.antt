@@ -1,5 +1,5 @@
 -- The key of a name in a place. No rule depends on it: it only tells names apart quickly.
-use Rattle.base.specs.Base.{ℕ, _+_, _*_, Bool, cond, List, [], _∷_, getD}
+use Rattle.base.specs.Base.{ℕ, _+_, _*_, List, [], _∷_, getD}
 use Prim.Native.Nat.{_/_, _%_}
 
 -- the weights of a unit's low byte and of its high one, by place
@@ -30,7 +30,3 @@ weighedFrom i (u ∷ us) = weighed u (getD lowWeights i 0) (getD highWeights i 0
 -- 0 is no key
 unfoldable pub nameKey : ℕ → List ℕ → ℕ
 nameKey number us = number * 0x100000000 + weighedFrom 0 us + 1
-
--- the key of a slot: a free one has none
-unfoldable pub slotKey : Bool → ℕ → List ℕ → ℕ
-slotKey used number us = cond used (nameKey number us) 0

@@ -1,6 +1,6 @@
 -- The odd numbers of the places that are not zero: their sum is the square of how many they are exactly where these places
 -- come first, which is where a name is well stored.
-use Rattle.base.{specs.Base.{ℕ, zero, suc, _+_, _*_, _≤_, _<_, _≡_, Bool, true, false, cond, List, [], _∷_, eqb, length, getD, drop, all}, proofs.Laws.{refl, sym, _∙_, ap, arith, by-cases, eqb-true, eqb-false, eq-eqb, ne-eqb, drop-next, drop-of-length-le}}
+use Rattle.base.{specs.Base.{ℕ, zero, suc, _+_, _*_, _≤_, _<_, _≡_, cond, List, [], _∷_, eqb, length, getD, drop, all}, proofs.Laws.{refl, sym, _∙_, ap, arith, by-cases, eqb-true, eqb-false, eq-eqb, ne-eqb, drop-next, drop-of-length-le}}
 use lib.Dec.{eqb·suc-zero}
 use native.Mathlib.{Nat.{mul-zero, mul-suc, suc-mul, add-mul}}
 use Rattle.stored_names.{specs.StoredNames.{units, wellStored}, proofs.StoredUnits.{isZero, well-stored}}

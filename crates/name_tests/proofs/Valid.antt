@@ -1,5 +1,5 @@
 -- The places of a well stored name: each is zero or valid exactly where the units are. And the dots.
-use Rattle.base.{specs.Base.{ℕ, zero, suc, _+_, _<_, _≡_, Bool, true, false, _&&_, _||_, List, [], _∷_, eqb, leb, length, getD, drop, all, same, isEmpty, replicate, fileNameLimit, streamNameLimit}, proofs.Laws.{refl, sym, _∙_, ap, arith, by-cases, and-left, and-right, le-leb, eqb-true, eqb-false, ne-eqb, drop-next}}
+use Rattle.base.{specs.Base.{ℕ, zero, suc, _+_, _<_, _≡_, Bool, true, false, _&&_, List, [], _∷_, eqb, length, getD, drop, all, same, isEmpty, replicate, fileNameLimit, streamNameLimit}, proofs.Laws.{refl, sym, _∙_, ap, arith, by-cases, and-left, and-right, le-leb, eqb-true, eqb-false, ne-eqb, drop-next}}
 use lib.Dec.{eqb·suc-zero}
 use mathlib.Core.Bool.{and-true, and-false}
 use Rattle.units.specs.Units.{dot}

@@ -1,6 +1,6 @@
 -- `audit_links::links_consistent` meets its contract. The invariant: the links from i on are passed. Then the names and the
 -- files are the other parts of the test.
-use Rattle.base.{specs.Base.{_-_, _<_, _≡_, Bool, true, getD, linkUsed, zeroLink, FileType, Link, Tables, fileNameLimit, fileSlots}, proofs.Laws.{sym, ap, ap₂, _∙_, ⊎-elim, arith, needs, not-true, not-false}}
+use Rattle.base.{specs.Base.{_-_, _<_, _≡_, true, getD, linkUsed, zeroLink, FileType, Link, Tables, fileNameLimit, fileSlots}, proofs.Laws.{sym, ap₂, _∙_, ⊎-elim, arith, needs, not-true, not-false}}
 use Rattle.consistency.specs.{Slots.slotTest, Good.{goodLink, isZeroLink}}
 use Rattle.layout.{specs.Layout.decode, proofs.Lengths.{files-count, links-count}}
 use Rattle.name_keys.proofs.Weights.{key-used, key-free}

@@ -1,6 +1,6 @@
 -- `name_keys::name_key` meets its contract. The loop's invariant: what was added up, with what the places left weigh, is
 -- the name's.
-use Rattle.base.{specs.Base.{_+_, _*_, _-_, _≤_, _≡_, fileNameLimit, length, getD, drop}, proofs.Laws.{refl, sym, _∙_, arith, needs}}
+use Rattle.base.{specs.Base.{_+_, _*_, _-_, _≤_, _≡_, fileNameLimit, length, getD, drop}, proofs.Laws.{arith, needs}}
 use Rattle.name_keys.proofs.{Weights.{weighed-next, weighed-end}, name_key.Statement.statement}
 use Rattle.name_keys.specs.NameKeys.{lowWeights, highWeights, weighed, weighedFrom, nameKey}
 use Rattle.name_keys.proofs.name_key.Tie as tie

@@ -1,5 +1,5 @@
 -- `name_tests::good_file_name` meets its contract: past the empty name and the dots, the places say all.
-use Rattle.base.{specs.Base.{_&&_}, proofs.Laws.{sym, ap₂, _∙_, needs}}
+use Rattle.base.proofs.Laws.{sym, _∙_, needs}
 use Rattle.name_tests.proofs.{Valid.{good-file-empty, good-file-dots, good-file-other}, good_file_name.Statement.statement}
 use Rattle.name_tests.proofs.good_file_name.Tie as tie
 

@@ -1,5 +1,5 @@
 -- `name_tests::zeros_or_valid` meets its contract. The loop's invariant: the answer so far, and that for the places left.
-use Rattle.base.{specs.Base.{_+_, _-_, _≡_, Bool, _&&_, fileNameLimit, getD, length, drop, all}, proofs.Laws.{refl, sym, ap, _∙_, arith, needs, all-end}}
+use Rattle.base.{specs.Base.{_+_, _-_, _≡_, Bool, _&&_, fileNameLimit, length, drop, all}, proofs.Laws.{refl, sym, ap, _∙_, arith, needs, all-end}}
 use mathlib.Core.Bool.{and-assoc, and-true}
 use Rattle.name_tests.specs.NameTests.{zeroOrValid}
 use Rattle.name_tests.proofs.{Valid.places-next, zeros_or_valid.Statement.statement}

@@ -1,5 +1,5 @@
 -- `names::valid_unit` meets its contract: its comparisons are the signs of `forbidden`, the backslash and the colon.
-use Rattle.base.{specs.Base.{ℕ, _≡_, Bool, true, false, not, _&&_, _||_, any, eqb, leb, oneOf}, proofs.Laws.{refl}}
+use Rattle.base.{specs.Base.{_≡_, Bool, true, false, not, _&&_, _||_, any, eqb, leb, oneOf}, proofs.Laws.{refl}}
 use Rattle.names.proofs.valid_unit.Statement.{statement}
 use Rattle.names.specs.Names.{validUnit}
 use Rattle.names.proofs.valid_unit.Tie as tie
