@@ -2,8 +2,8 @@
 // file, and each file's parent. Then the names, by their keys, and the links and the parents of each file. The pass goes
 // from the last link to the first, as the definitions go through them.
 use distinct::distinct;
-use name_keys::slot_key;
-use names::valid_file_name;
+use name_keys::name_key;
+use name_tests::good_file_name;
 use records::FileNo;
 use records::FileType;
 use records::Link;
@@ -16,9 +16,7 @@ use records::slots::link_used;
 use records_files::read_file_type;
 use records_links::read_link;
 use records_links::read_parent;
-use stored_names::name_length;
 use stored_names::same_names;
-use stored_names::well_stored;
 use stored_names::zero_name;
 ghost use Prim.Native.Nat.{ℕ, _<_};
 ghost use mathlib.Core.Path.{_≡_};
@@ -26,9 +24,7 @@ ghost use mathlib.Core.Bool.{cond, not, _||_};
 ghost use lib.Dec.{eqb};
 ghost use lib.ListN.{length, getD, drop};
 ghost use Rattle.lists.specs.Lists.{all, allFrom, keep, pairs};
-ghost use Rattle.names.specs.Names.{validFileName};
-ghost use Rattle.stored_names.specs.StoredNames.{units};
-ghost use Rattle.records.specs.Sizes.{fileNameLimit, fileSlots};
+ghost use Rattle.records.specs.Sizes.{fileSlots};
 ghost use Rattle.records.specs.Slots.{linkUsed};
 ghost use Rattle.tables.specs.Tables.{linkAt};
 ghost use Rattle.layout.specs.Layout.{tablesSize, decode};
@@ -51,23 +47,12 @@ fn is_zero_link(l: Link) -> bool
     zero_name(&name)
 }
 
-// The name of a link is a valid one.
-fn valid_stored_name(name: &[u16]) -> bool
-    ensures { λ r. ⌜ r ≡ validFileName fileNameLimit (units (now (name .entry))) ⌝ }
-{
-    let n = name_length(name);
-    valid_file_name(&name[..n])
-}
-
 // A used one has a valid name, of a used file in a directory, of which the types are given.
 fn good_link(l: Link, of: FileType, above: FileType) -> bool
     ensures { λ r. ⌜ r ≡ goodLink of above l ⌝ }
 {
     let name = l.name;
-    if !well_stored(&name) {
-        return false;
-    }
-    if !valid_stored_name(&name) {
+    if !good_file_name(name) {
         return false;
     }
     is_used(of) && is_directory(above)
@@ -213,7 +198,7 @@ pub fn links_consistent(b: &[u8]) -> bool
         }
         let name = l.name;
         let used = link_used(l);
-        keys[i] = slot_key(used, parent.0, &name);
+        keys[i] = if used { name_key(parent.0, name) } else { 0 };
         if used {
             let f = file.0 as usize;
             counts[f] = counts[f] + 1;

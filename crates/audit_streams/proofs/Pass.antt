@@ -1,10 +1,10 @@
 -- The pass over the streams from the last to the first: what holds once those from place i on were passed. Each of them
 -- passes the test, its key is kept, and of each file they are counted, all and those without a name.
-use Rattle.base.{specs.Base.{ℕ, _+_, _-_, _≤_, _<_, _≡_, Bool, true, false, _&&_, List, _⊎_, length, getD, set, replicate, all, allFrom, isEmpty, keep, pairs, fileSlots, streamSlots, fileUsed, BareStream, zeroBare, bareUsed, FileNo, File}, proofs.Laws.{sym, _∙_, ap, arith, eq-eqb, by-cases, one, numbered-same, Scanned, scan-none, scan-fails, scan-back, scan-end, Counted, count-begins, count-room, count-ends, keyed, keyed-own, count-skips, count-adds}}
-use Rattle.stored_names.specs.StoredNames.{units}
+use Rattle.base.{specs.Base.{ℕ, _+_, _-_, _≤_, _<_, _≡_, Bool, true, false, _&&_, List, _⊎_, length, getD, set, replicate, all, allFrom, isEmpty, keep, pairs, fileSlots, streamSlots, streamNameLimit, fileUsed, BareStream, zeroBare, bareUsed, FileNo, File}, proofs.Laws.{sym, _∙_, ap, arith, eq-eqb, by-cases, one, numbered-same, Scanned, scan-none, scan-fails, scan-back, scan-end, Counted, count-begins, count-room, count-ends, keyed, keyed-own, count-skips, count-adds}}
+use Rattle.stored_names.specs.StoredNames.{units, wellStored}
 use Rattle.distinct.specs.Keys.{isKey, differ}
 use Rattle.name_keys.proofs.Tell.{keyOf, names-told}
-use Rattle.consistency.{specs.{Relations.{streamOf, unnamedOf}, Slots.{slotTest, slotsTest}, Good.{isZeroStream, streamNamesDiffer}, Test.{goodStreamOf, streamsOfFile, streamsTest}}, proofs.Streams.{streams-kept, unnamed-kept}}
+use Rattle.consistency.{specs.{Relations.{streamOf, unnamedOf}, Slots.{slotTest, slotsTest}, Good.{isZeroStream, streamNamesDiffer}, Test.{goodStreamOf, streamsOfFile, streamsTest}}, proofs.{Slots.slot-good, Streams.{stream-decides, streams-kept, unnamed-kept}}}
 use Rattle.audit_streams.specs.Streams.{hasStreams, haveStreams}
 
 -- a slot, used or free
@@ -17,6 +17,10 @@ fileOf s = s .file .0
 
 abbrev pub streamKey : BareStream → ℕ
 streamKey = keyOf bareUsed fileOf (λ s. s .name)
+
+-- a used one that passes has a well stored name
+pub name-stored : (fs : List File) (s : BareStream) → bareUsed s ≡ true → streamTest fs s ≡ true → wellStored streamNameLimit (s .name) ≡ true
+name-stored fs s u h = slot-good (stream-decides fs) s u h .nameStored
 
 -- the streams of the file with a number, and those without a name
 abbrev ofFile : ℕ → BareStream → Bool

@@ -2,8 +2,8 @@
 // its name, and of each file how many streams it has and how many of them without a name. Then the names, by their keys, and
 // the streams of each file.
 use distinct::distinct;
-use name_keys::slot_key;
-use names::valid_stream_name;
+use name_keys::name_key;
+use name_tests::good_stream_name;
 use records::FileNo;
 use records::FileType;
 use records::Stream;
@@ -17,31 +17,19 @@ use records::slots::stream_used;
 use records_files::read_file_type;
 use records_streams::read_stream;
 use records_streams::read_stream_file;
-use stored_names::name_length;
 use stored_names::same_names;
-use stored_names::well_stored;
 use stored_names::zero_name;
 ghost use mathlib.Core.Path.{_≡_};
 ghost use mathlib.Core.Bool.{cond};
 ghost use lib.ListN.{length, drop};
 ghost use Rattle.lists.specs.Lists.{all, allFrom, isEmpty, keep, pairs};
-ghost use Rattle.names.specs.Names.{validStreamName};
 ghost use Rattle.stored_names.specs.StoredNames.{units};
-ghost use Rattle.records.specs.Sizes.{streamNameLimit};
 ghost use Rattle.records.specs.Namespace.{bare, bareAt, bareUsed, namespace};
 ghost use Rattle.layout.specs.Layout.{tablesSize, decode};
 ghost use Rattle.consistency.specs.Slots.{slotTest};
 ghost use Rattle.consistency.specs.Good.{goodStream, isZeroStream, streamNamesDiffer};
 ghost use Rattle.consistency.specs.Test.{streamsTest};
 ghost use Rattle.audit_streams.specs.Streams.{freeOrDiffers, hasStreams, haveStreams};
-
-// The name is a valid one.
-fn valid_stored_stream_name(name: &[u16]) -> bool
-    ensures { λ r. ⌜ r ≡ validStreamName streamNameLimit (units (now (name .entry))) ⌝ }
-{
-    let n = name_length(name);
-    valid_stream_name(&name[..n])
-}
 
 // What a free slot has beside its kind is zero.
 fn is_zero_stream(s: Stream) -> bool
@@ -57,10 +45,7 @@ fn good_stream(s: Stream, of: FileType) -> bool
 {
     let name = s.name;
     let t = s.stream_type;
-    if !well_stored(&name) {
-        return false;
-    }
-    if !valid_stored_stream_name(&name) {
+    if !good_stream_name(name) {
         return false;
     }
     is_used(of) & (is_directory(t) == is_directory(of))
@@ -172,9 +157,10 @@ pub fn streams_consistent(b: &[u8]) -> bool
             return false;
         }
         let name = s.name;
-        keys[i] = slot_key(stream_used(s), file.0, &name);
+        let used = stream_used(s);
+        keys[i] = if used { name_key(file.0, name) } else { 0 };
         let f = file.0 as usize;
-        if stream_used(s) && f < FILE_SLOTS {
+        if used && f < FILE_SLOTS {
             all[f] = all[f] + 1;
             unnamed[f] = unnamed[f] + one_if_unnamed(&name);
         }

@@ -2,7 +2,8 @@
 use Rattle.base.{specs.Base.{ℕ, _≡_, Bool, true, not, _&&_, List, map, eqb, same, keep, pairs}, proofs.Laws.{ap₂, arith, eqb-true, ne-eqb, not-is, not-false, by-cases, and-left, and-right, same-is}}
 use Rattle.distinct.{specs.Keys.{isKey, differ}, proofs.Tells.{Tells, told}}
 use Rattle.stored_names.specs.StoredNames.{units}
-use Rattle.name_keys.specs.NameKeys.{nameKey, slotKey}
+use Rattle.name_keys.specs.NameKeys.{nameKey}
+use Rattle.name_keys.proofs.Weights.{slotKey}
 
 -- a name has a key
 name-is-key : (number : ℕ) (us : List ℕ) → isKey (nameKey number us) ≡ true
@@ -10,8 +11,9 @@ unfolding isKey nameKey
 name-is-key number us = not-is (ne-eqb (nameKey number us) 0 (λ e. let z : ⊥ = omega arith in z))
 
 module _ {A : Type 0} (used : A → Bool) (number : A → ℕ) (name : A → List ℕ) where
+  -- the key of a slot, by the units of its name
   abbrev pub keyOf : A → ℕ
-  keyOf x = slotKey (used x) (number x) (name x)
+  keyOf x = slotKey (used x) (number x) (units (name x))
 
   -- two slots differ in number or name
   abbrev pub namesDiffer : A → A → Bool

@@ -1,54 +1,7 @@
 -- Laws of valid units and names, as the code tests them.
-use Rattle.base.{specs.Base.{ℕ, _≤_, _<_, _≡_, Bool, true, false, not, _&&_, _||_, List, [], _∷_, _⊎_, inl, inr, eqb, leb, length, getD, all, any, isEmpty, oneOf, same}, proofs.Laws.{refl, arith, le-leb, lt-leb, empty-length, eq-eqb, ne-eqb, eqb-true, eqb-false, same-lengths}}
+use Rattle.base.{specs.Base.{ℕ, _≤_, _<_, _≡_, Bool, true, false, not, _&&_, _||_, List, [], _∷_, eqb, leb, length, getD, all, isEmpty, same}, proofs.Laws.{refl, arith, le-leb, lt-leb, empty-length, eq-eqb, ne-eqb, same-lengths}}
 use Rattle.units.specs.Units.{dot}
 use Rattle.names.specs.Names.{validUnit, validFileName, validStreamName}
-
--- one unit
-
--- the signs that stand in no name, but for `>` and `?`, which are neighbours and tested as a range
-abbrev pub Lone : ℕ → Type 0
-Lone u = (u ≡ 0x22) ⊎ (u ≡ 0x2A) ⊎ (u ≡ 0x2F) ⊎ (u ≡ 0x3A) ⊎ (u ≡ 0x3C) ⊎ (u ≡ 0x5C) ⊎ (u ≡ 0x7C)
-
-pub unit-low : (u : ℕ) → u < 0x20 → validUnit u ≡ false
-unfolding validUnit
-unit-low u h = rw (lt-leb 0x20 u h)
-
-at-sign : (u sign : ℕ) → validUnit sign ≡ false → u ≡ sign → validUnit u ≡ false
-at-sign u sign h e = rw e h
-
-pub unit-lone : (u : ℕ) → Lone u → validUnit u ≡ false
-unfolding validUnit oneOf any
-unit-lone u (inl e) = at-sign u 0x22 refl e
-unit-lone u (inr (inl e)) = at-sign u 0x2A refl e
-unit-lone u (inr (inr (inl e))) = at-sign u 0x2F refl e
-unit-lone u (inr (inr (inr (inl e)))) = at-sign u 0x3A refl e
-unit-lone u (inr (inr (inr (inr (inl e))))) = at-sign u 0x3C refl e
-unit-lone u (inr (inr (inr (inr (inr (inl e)))))) = at-sign u 0x5C refl e
-unit-lone u (inr (inr (inr (inr (inr (inr e)))))) = at-sign u 0x7C refl e
-
-pub unit-range : (u : ℕ) → 0x3E ≤ u → u < 0x40 → validUnit u ≡ false
-unfolding validUnit oneOf any
-unit-range u low high = go (eqb u 0x3E) refl
-  where
-    go : (b : Bool) → eqb u 0x3E ≡ b → validUnit u ≡ false
-    go true e = at-sign u 0x3E refl (eqb-true u 0x3E e)
-    go false e = at-sign u 0x3F refl (let ne : u ≡ 0x3E → ⊥ = eqb-false u 0x3E e in omega arith)
-
-pub unit-other : (u : ℕ) → 0x20 ≤ u → (Lone u → ⊥) → (u ≡ 0x3E → ⊥) → (u ≡ 0x3F → ⊥) → validUnit u ≡ true
-unfolding validUnit oneOf any
-unit-other u h ne ne1 ne2 =
-    rw (
-      le-leb 0x20 u h,
-      ne-eqb u 0x22 (λ e. ne (inl e)),
-      ne-eqb u 0x2A (λ e. ne (inr (inl e))),
-      ne-eqb u 0x2F (λ e. ne (inr (inr (inl e)))),
-      ne-eqb u 0x3A (λ e. ne (inr (inr (inr (inl e))))),
-      ne-eqb u 0x3C (λ e. ne (inr (inr (inr (inr (inl e)))))),
-      ne-eqb u 0x3E ne1,
-      ne-eqb u 0x3F ne2,
-      ne-eqb u 0x5C (λ e. ne (inr (inr (inr (inr (inr (inl e))))))),
-      ne-eqb u 0x7C (λ e. ne (inr (inr (inr (inr (inr (inr e))))))),
-    )
 
 -- `.` and `..`
 

@@ -12,16 +12,19 @@ ghost use Rattle.names.specs.Names.{validUnit, validFileName, validStrea
 const DOT: u16 = 0x2E;
 
 // Whether a unit may stand in a name: no control sign, none of `" * / < > ? |`, neither colon nor backslash.
-fn valid_unit(unit: u16) -> bool
+pub fn valid_unit(unit: u16) -> bool
     ensures { λ r. ⌜ r ≡ validUnit unit ⌝ }
 {
-    if unit < 0x20 {
-        return false;
-    }
-    match unit {
-        0x22 | 0x2A | 0x2F | 0x3A | 0x3C | 0x3E | 0x3F | 0x5C | 0x7C => false,
-        _ => true,
-    }
+    (0x20 <= unit)
+        & (unit != 0x22)
+        & (unit != 0x2A)
+        & (unit != 0x2F)
+        & (unit != 0x3C)
+        & (unit != 0x3E)
+        & (unit != 0x3F)
+        & (unit != 0x7C)
+        & (unit != 0x5C)
+        & (unit != 0x3A)
 }
 
 // Whether a name is no longer than the limit and has valid units only.

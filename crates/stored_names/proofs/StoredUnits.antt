@@ -1,7 +1,7 @@
 -- A stored name's units: they are a part of it, there are none exactly where the first place is zero, and the places after
 -- them are zero exactly where the name is well stored.
-use Rattle.base.{specs.Base.{ℕ, zero, suc, _-_, _≤_, _<_, _≡_, Bool, false, _&&_, List, [], _∷_, _++_, eqb, length, getD, take, drop, replicate, all, same, isEmpty, padded}, proofs.Laws.{refl, sym, ap, _∙_, arith, same-differs, same-append}}
-use lib.{ListN.length-append, Seq.take-append-seam}
+use Rattle.base.{specs.Base.{ℕ, zero, suc, _-_, _≤_, _<_, _≡_, Bool, false, _&&_, List, [], _∷_, _++_, eqb, length, getD, drop, replicate, all, same, isEmpty, padded}, proofs.Laws.{refl, sym, ap, _∙_, arith, same-differs, same-append}}
+use lib.ListN.{length-append}
 use Rattle.stored_names.proofs.NameUnits.{units-end, units-none}
 use Rattle.stored_names.specs.StoredNames.{units, wellStored}
 
@@ -13,9 +13,6 @@ units-prefix (zero ∷ us) = refl
 units-prefix (suc u ∷ us) = ap (λ (l : List ℕ). suc u ∷ l) (units-prefix us)
 
 module _ (n : List ℕ) where
-  pub units-taken : take (length (units n)) n ≡ units n
-  units-taken = ap (take (length (units n))) (sym (units-prefix n)) ∙ take-append-seam (units n) (drop (length (units n)) n)
-
   pub units-fit : length (units n) ≤ length n
   units-fit = omega (arith, length-append (units n) (drop (length (units n)) n), ap length (units-prefix n))
 

@@ -2,12 +2,11 @@
 use records::sizes::FILE_NAME_LIMIT;
 use units::folded_unit;
 ghost use mathlib.Core.Path.{_≡_};
-ghost use lib.Dec.{eqb};
-ghost use lib.ListN.{length, getD, take, drop, replicate};
-ghost use Rattle.lists.specs.Lists.{all, same, padded};
+ghost use lib.ListN.{length, getD, take, replicate};
+ghost use Rattle.lists.specs.Lists.{same, padded};
 ghost use Rattle.records.specs.Sizes.{fileNameLimit};
 ghost use Rattle.units.specs.Units.{equalUnits};
-ghost use Rattle.stored_names.specs.StoredNames.{units, wellStored};
+ghost use Rattle.stored_names.specs.StoredNames.{units};
 
 // The unit at a place, zero past the last place.
 fn unit_at(name: &[u16], at: usize) -> u16
@@ -64,44 +63,16 @@ pub fn same_names(a: &[u16], b: &[u16]) -> bool
     unit_at(b, i) == 0
 }
 
-// How many units a stored name has.
-pub fn name_length(name: &[u16]) -> usize
-    ensures { λ r. ⌜ r ≡ length (units (now (name .entry))) ⌝ }
-{
-    let mut i = 0;
-    while i < name.len() {
-        if name[i] == 0 {
-            return i;
-        }
-        i += 1;
-    }
-    i
-}
-
-// Whether every place from one on is zero.
-fn zero_from(name: &[u16], from: usize) -> bool
-    ensures { λ r. ⌜ r ≡ all (λ u. eqb u 0) (drop from (now (name .entry))) ⌝ }
-{
-    let mut at = from;
-    while at < name.len() {
-        if name[at] != 0 {
-            return false;
-        }
-        at += 1;
-    }
-    true
-}
-
-// Whether every place after a stored name's last unit is zero.
-pub fn well_stored(name: &[u16]) -> bool
-    ensures { λ r. ⌜ r ≡ wellStored (length (now (name .entry))) (now (name .entry)) ⌝ }
-{
-    zero_from(name, name_length(name))
-}
-
 // Whether a stored name is all zero.
 pub fn zero_name(name: &[u16]) -> bool
     ensures { λ r. ⌜ r ≡ same (now (name .entry)) (replicate (length (now (name .entry))) 0) ⌝ }
 {
-    zero_from(name, 0)
+    let mut i = 0;
+    while i < name.len() {
+        if name[i] != 0 {
+            return false;
+        }
+        i += 1;
+    }
+    true
 }

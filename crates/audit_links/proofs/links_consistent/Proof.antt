@@ -1,11 +1,12 @@
 -- `audit_links::links_consistent` meets its contract. The invariant: the links from i on are passed. Then the names and the
 -- files are the other parts of the test.
-use Rattle.base.{specs.Base.{_-_, _<_, _≡_, Bool, true, getD, linkUsed, zeroLink, FileType, Link, Tables, fileSlots}, proofs.Laws.{sym, ap, ap₂, _∙_, ⊎-elim, arith, needs, not-true, not-false}}
+use Rattle.base.{specs.Base.{_-_, _<_, _≡_, true, getD, linkUsed, zeroLink, FileType, Link, Tables, fileNameLimit, fileSlots}, proofs.Laws.{sym, ap₂, _∙_, ⊎-elim, arith, needs, not-true, not-false}}
 use Rattle.consistency.specs.{Slots.slotTest, Good.{goodLink, isZeroLink}}
 use Rattle.layout.{specs.Layout.decode, proofs.Lengths.{files-count, links-count}}
-use Rattle.name_keys.specs.NameKeys.{slotKey}
+use Rattle.name_keys.proofs.Weights.{key-used, key-free}
+use Rattle.stored_names.specs.StoredNames.{units}
 use Rattle.tables.specs.Tables.{linkAt}
-use Rattle.audit_links.proofs.{Links.{linkTest, file-there}, Pass.{Passed, linkKey, pass-none, pass-fails, pass-free, pass-used, count-fits, pass-names, pass-alike, pass-ends}, links_consistent.Statement.statement}
+use Rattle.audit_links.proofs.{Links.{linkTest, file-there, name-stored}, Pass.{Passed, linkKey, pass-none, pass-fails, pass-free, pass-used, count-fits, pass-names, pass-alike, pass-ends}, links_consistent.Statement.statement}
 use Rattle.audit_links.proofs.links_consistent.Tie as tie
 
 abbrev Inv-loop : tie.InvT-loop
@@ -44,48 +45,58 @@ returns c =
     sym (pass-fails (turn s .loop .inv) (omega arith) (is-link s) (sym (tested s) ∙ not-true (s .slot-consistent .result) (c .if1 .taken)))
 
 -- it passes, and its key is kept
-module _ (c : tie.After-slot-key Inv-loop μ-loop) where
+module _ (c : tie.Joined2 Inv-loop μ-loop) where
   abbrev seen : tie.After-slot-consistent Inv-loop μ-loop
-  seen = c .before .before .before .before .before
+  seen = c .before .before .before .before
 
   passes : linkTest (state seen .volume .files) (link seen) ≡ true
-  passes = sym (tested seen) ∙ not-false (seen .slot-consistent .result) (c .before .before .before .before .if1 .left)
+  passes = sym (tested seen) ∙ not-false (seen .slot-consistent .result) (c .before .before .before .if1 .left)
 
-  key : c .slot-key .result ≡ linkKey (link seen)
-  key = c .slot-key .ensures ∙ ap (λ (u : Bool). slotKey u (link seen .parent .0) (link seen .name)) (c .before .before .link-used .ensures)
+  is-used : c .before .link-used .result ≡ linkUsed (link seen)
+  is-used = c .before .link-used .ensures
+
+  key : c .if2 .keys ≡ linkKey (link seen)
+  key =
+      let l = link seen in
+      ⊎-elim
+      (λ w.
+      let u = sym is-used ∙ w .0 .taken in
+      w .2 ∙ w .1 .ensures ∙ key-used fileNameLimit u (l .parent .0) (l .name) (name-stored (state seen .volume .files) l u passes))
+      (λ w. w .1 ∙ key-free (sym is-used ∙ w .0 .left) (l .parent .0) (units (l .name)))
+      (c .if2 .came)
 
 -- a used one is noted at its file's number
-module _ (c : tie.After-struct-known Inv-loop μ-loop) where
+module _ (c : tie.Then3 Inv-loop μ-loop) where
   abbrev noted : tie.After-slot-consistent Inv-loop μ-loop
-  noted = seen (c .before .before)
+  noted = seen (c .before)
 
   used : linkUsed (link noted) ≡ true
-  used = sym (c .before .before .before .before .link-used .ensures) ∙ c .before .if2 .taken
+  used = sym (is-used (c .before)) ∙ c .if3 .taken
 
   below : link noted .file .0 < fileSlots
   below =
       omega (
         arith,
-        file-there (state noted .volume .files) (link noted) used (passes (c .before .before)),
+        file-there (state noted .volume .files) (link noted) used (passes (c .before)),
         files-count (turn noted .before .before .before .args .b .now),
       )
 
 loop-again : tie.Need-loop-again Inv-loop μ-loop
 loop-again c =
     let s = noted c in
-    pass-used (turn s .loop .inv) (omega arith) (is-link s) (passes (c .before .before)) (key (c .before .before)) (used c) (below c)
+    pass-used (turn s .loop .inv) (omega arith) (is-link s) (passes (c .before)) (key (c .before)) (used c) (below c)
 
 loop-again-2 : tie.Need-loop-again-2 Inv-loop μ-loop
 loop-again-2 c =
     let s = seen (c .before) in
     pass-free (turn s .loop .inv) (omega arith) (is-link s) (passes (c .before)) (key (c .before))
-    (sym (c .before .before .before .link-used .ensures) ∙ c .if2 .left)
+    (sym (is-used (c .before)) ∙ c .if3 .left)
 
 returns-2 : tie.Need-returns-2 Inv-loop μ-loop
 returns-2 c =
     let n = c .before in
     let l = n .before .before .before .before .before in
-    sym (pass-alike (l .loop .inv) (omega arith) (sym (n .names-differ .ensures) ∙ not-true (n .names-differ .result) (c .if4 .taken)))
+    sym (pass-alike (l .loop .inv) (omega arith) (sym (n .names-differ .ensures) ∙ not-true (n .names-differ .result) (c .if5 .taken)))
 
 returns-3 : tie.Need-returns-3 Inv-loop μ-loop
 returns-3 c =
@@ -96,7 +107,7 @@ returns-3 c =
     (pass-ends (l .loop .inv) (omega arith) (files-count (l .before .before .before .args .b .now))
     (⊎-elim (λ w. sym (w .1 .ensures) ∙ not-false (w .1 .result) (w .2 .left))
     (λ w. pass-names (l .loop .inv) (omega arith) (sym (d .distinct .ensures) ∙ not-false (d .distinct .result) (w .left)))
-    (c .before .before .before .if3 .came)))
+    (c .before .before .before .if4 .came)))
 
 pub links-consistent-spec : {M : Type 1} → statement M
 links-consistent-spec =
@@ -114,7 +125,6 @@ links-consistent-spec =
     (λ c κs. search needs)
     returns
     (λ c κs. search needs)
-    (λ c. search needs)
     (λ c κs. search needs)
     (λ c. search needs)
     (λ c. search needs)

@@ -1,8 +1,9 @@
 -- `audit_streams::streams_consistent` meets its contract. The invariant: the streams from i on were passed.
-use Rattle.base.{specs.Base.{_-_, _≡_, inl, inr, getD, isEmpty, fileSlots, streamUsed, zeroBare, bare, bareAt, bareUsed}, proofs.Laws.{refl, sym, _∙_, ⊎-elim, arith, needs, not-true, not-false, ltb-true, ltb-false}}
+use Rattle.base.{specs.Base.{_-_, _≡_, inl, inr, getD, isEmpty, fileSlots, streamNameLimit, streamUsed, zeroBare, bare, bareAt, bareUsed, List, File, Stream, true}, proofs.Laws.{refl, sym, _∙_, ⊎-elim, arith, needs, not-true, not-false, ltb-true, ltb-false}}
 use Rattle.layout.{specs.Layout.decode, proofs.Lengths.files-count}
 use Rattle.stored_names.specs.StoredNames.{units}
-use Rattle.audit_streams.proofs.{Streams.{streams, streams-long, stream-read}, Pass.{streamTest, streamKey, Passed, pass-begins, every-room, unnamed-room, pass-fails, pass-skips, pass-adds, names-settled, names-fail, pass-ends}, streams_consistent.Statement.statement}
+use Rattle.name_keys.proofs.Weights.{key-used, key-free}
+use Rattle.audit_streams.proofs.{Streams.{streams, streams-long, stream-read}, Pass.{streamTest, streamKey, name-stored, Passed, pass-begins, every-room, unnamed-room, pass-fails, pass-skips, pass-adds, names-settled, names-fail, pass-ends}, streams_consistent.Statement.statement}
 use Rattle.audit_streams.proofs.streams_consistent.Tie as tie
 
 abbrev Inv-loop : tie.InvT-loop
@@ -29,12 +30,36 @@ tested : (c : tie.After-slot-consistent Inv-loop μ-loop) →
 unfolding bare
 tested c = rw (← c .before .read-file-type .ensures) (c .slot-consistent .ensures)
 
--- and its key is that of its name
-key : (c : tie.After-slot-key Inv-loop μ-loop) →
-    let s = c .before .before .before .before .before .before .before .before in
-    c .slot-key .result ≡ streamKey (bare (s .read-stream .result))
-unfolding bare bareUsed streamUsed
-key c = rw (← c .before .before .stream-used .ensures) (c .slot-key .ensures)
+-- it passes, and its key is kept
+module _ (c : tie.Joined2 Inv-loop μ-loop) where
+  abbrev seen : tie.After-slot-consistent Inv-loop μ-loop
+  seen = c .before .before .before .before
+
+  abbrev read : tie.After-read-stream Inv-loop μ-loop
+  read = seen .before .before .before
+
+  abbrev stream : Stream
+  stream = read .read-stream .result
+
+  abbrev files : List File
+  files = decode (read .before .before .before .before .args .b .now) .volume .files
+
+  passes : streamTest files (bare stream) ≡ true
+  passes = sym (tested seen) ∙ not-false _ (c .before .before .before .if1 .left)
+
+  is-used : c .before .stream-used .result ≡ bareUsed (bare stream)
+  unfolding bare bareUsed streamUsed
+  is-used = c .before .stream-used .ensures
+
+  key : c .if2 .keys ≡ streamKey (bare stream)
+  unfolding bare
+  key =
+      ⊎-elim
+      (λ w.
+      let u = sym is-used ∙ w .0 .taken in
+      w .2 ∙ w .1 .ensures ∙ key-used streamNameLimit u (stream .file .0) (stream .name) (name-stored files (bare stream) u passes))
+      (λ w. w .1 ∙ key-free (sym is-used ∙ w .0 .left) (stream .file .0) (units (stream .name)))
+      (c .if2 .came)
 
 returns : tie.Need-returns Inv-loop μ-loop
 returns c =
@@ -46,47 +71,34 @@ returns c =
 
 add-all : tie.Need-add-all Inv-loop μ-loop
 add-all c =
-    let s = c .before .before .before .before .before .before .before .before .before .before .before .before in
-    let l = s .before .before in
-    let n = s .read-stream .result .file .0 in
-    let room = every-room (l .loop .inv) n (ltb-true n fileSlots (c .if3 .taken)) in
+    let k = c .before .before in
+    let n = stream k .file .0 in
+    let room = every-room (read k .before .before .loop .inv) n (ltb-true n fileSlots (c .if4 .taken)) in
     record { fits = omega arith }
 
 add-unnamed : tie.Need-add-unnamed Inv-loop μ-loop
 add-unnamed c =
-    let f = c .before .before in
-    let s = f .before .before .before .before .before .before .before .before .before .before .before .before in
-    let l = s .before .before in
-    let n = s .read-stream .result .file .0 in
+    let k = c .before .before .before .before in
+    let n = stream k .file .0 in
     let room =
-    unnamed-room (l .loop .inv) n (ltb-true n fileSlots (f .if3 .taken))
-    (isEmpty (units (s .read-stream .result .name))) in
+    unnamed-room (read k .before .before .loop .inv) n (ltb-true n fileSlots (c .before .before .if4 .taken))
+    (isEmpty (units (stream k .name))) in
     record { fits = omega (arith, c .one-if-unnamed .ensures) }
 
 loop-again : tie.Need-loop-again Inv-loop μ-loop
-unfolding bare bareUsed streamUsed
+unfolding bare
 loop-again c =
-    let u = c .before .before .before .before in
-    let k = u .before .before in
-    let t = k .before .before .before .before .before in
-    let s = t .before .before .before in
-    let l = s .before .before in
-    pass-adds (l .loop .inv) (omega arith) (bare (s .read-stream .result)) (here s)
-    (sym (tested t) ∙ not-false _ (k .before .before .before .before .if1 .left)) (key k)
-    (sym (u .stream-used2 .ensures) ∙ c .before .before .before .if2 .taken) (ltb-true _ fileSlots (c .before .before .if3 .taken))
+    let k = c .before .before .before .before in
+    pass-adds (read k .before .before .loop .inv) (omega arith) (bare (stream k)) (here (read k)) (passes k) (key k)
+    (sym (is-used k) ∙ c .before .before .before .if3 .taken) (ltb-true _ fileSlots (c .before .before .if4 .taken))
     (c .one-if-unnamed .ensures)
 
 loop-again-2 : tie.Need-loop-again-2 Inv-loop μ-loop
-unfolding bare bareUsed streamUsed
+unfolding bare
 loop-again-2 c =
-    let u = c .before in
-    let k = u .before .before in
-    let t = k .before .before .before .before .before in
-    let s = t .before .before .before in
-    let l = s .before .before in
-    pass-skips (l .loop .inv) (omega arith) (bare (s .read-stream .result)) (here s)
-    (sym (tested t) ∙ not-false _ (k .before .before .before .before .if1 .left)) (key k)
-    (⊎-elim (λ w. inr (ltb-false _ fileSlots (w .1 .left))) (λ w. inl (sym (u .stream-used2 .ensures) ∙ w .left)) (c .if2 .came))
+    let k = c .before in
+    pass-skips (read k .before .before .loop .inv) (omega arith) (bare (stream k)) (here (read k)) (passes k) (key k)
+    (⊎-elim (λ w. inr (ltb-false _ fileSlots (w .1 .left))) (λ w. inl (sym (is-used k) ∙ w .left)) (c .if3 .came))
 
 slice-aggregate-distinct : tie.Need-slice-aggregate-distinct Inv-loop μ-loop
 slice-aggregate-distinct c =
@@ -98,7 +110,7 @@ returns-2 c =
     let l = c .before .before .before .before .before .before in
     sym
     (names-fail (l .loop .inv) (omega arith)
-    (sym (c .before .names-differ .ensures) ∙ not-true _ (c .if5 .taken)))
+    (sym (c .before .names-differ .ensures) ∙ not-true _ (c .if6 .taken)))
 
 returns-3 : tie.Need-returns-3 Inv-loop μ-loop
 returns-3 c =
@@ -107,7 +119,7 @@ returns-3 c =
     pass-ends (l .loop .inv) (omega arith) (files-count (l .before .before .args .b .now))
     (⊎-elim (λ w. sym (w .1 .ensures) ∙ not-false _ (w .2 .left))
     (λ w. names-settled (l .loop .inv) (omega arith) (sym (d .distinct .ensures) ∙ not-false _ (w .left)))
-    (c .before .before .before .if4 .came))
+    (c .before .before .before .if5 .came))
     (c .files-have-streams .ensures)
 
 pub streams-consistent-spec : {M : Type 1} → statement M
@@ -124,12 +136,10 @@ streams-consistent-spec =
     (λ c κs. search needs)
     returns
     (λ c κs. search needs)
-    (λ c. search needs)
     (λ c κs. search needs)
     (λ c. search needs)
     (λ c. search needs)
     (λ c. search needs)
-    (λ c κs. search needs)
     (λ c. search needs)
     (λ c. search needs)
     add-all

@@ -1,0 +1,2 @@
+mod Odds
+mod Valid

@@ -1,0 +1,90 @@
+-- The places of a well stored name: each is zero or valid exactly where the units are. And the dots.
+use Rattle.base.{specs.Base.{ℕ, zero, suc, _+_, _<_, _≡_, Bool, true, false, _&&_, List, [], _∷_, eqb, length, getD, drop, all, same, isEmpty, replicate, fileNameLimit, streamNameLimit}, proofs.Laws.{refl, sym, _∙_, ap, arith, by-cases, and-left, and-right, le-leb, eqb-true, eqb-false, ne-eqb, drop-next}}
+use lib.Dec.{eqb·suc-zero}
+use mathlib.Core.Bool.{and-true, and-false}
+use Rattle.units.specs.Units.{dot}
+use Rattle.names.{specs.Names.{validUnit, validFileName, validStreamName}, proofs.ValidNames.{dots, file-name-dots, file-name-other}}
+use Rattle.stored_names.{specs.StoredNames.{units, wellStored}, proofs.{NameUnits.{units-end, units-next, units-none}, StoredUnits.{isZero, well-stored, units-fit, zeros-stored}}}
+use Rattle.name_tests.specs.NameTests.{goodFileName, goodStreamName, zeroOrValid}
+
+-- one place more
+pub places-next : (n : List ℕ) (i : ℕ) → i < length n → all zeroOrValid (drop i n) ≡ (zeroOrValid (getD n i 0) && all zeroOrValid (drop (i + 1) n))
+unfolding all
+places-next n i h = rw (drop-next n i 0 h)
+
+zeros-pass : (us : List ℕ) → all isZero us ≡ true → all zeroOrValid us ≡ true
+unfolding all
+zeros-pass [] h = refl
+zeros-pass (u ∷ us) h = rw (and-left (isZero u) (all isZero us) h) (zeros-pass us (and-right (isZero u) (all isZero us) h))
+
+units-pass : (n : List ℕ) → all isZero (drop (length (units n)) n) ≡ true → all zeroOrValid n ≡ all validUnit (units n)
+unfolding all units
+units-pass [] h = refl
+units-pass (zero ∷ us) h = zeros-pass us h
+units-pass (suc u ∷ us) h = rw (eqb·suc-zero u) (ap (λ (b : Bool). validUnit (suc u) && b) (units-pass us h))
+
+module _ (n : List ℕ) where
+  pub stored-valid : (wellStored (length n) n && all zeroOrValid n) ≡ (wellStored (length n) n && validStreamName (length n) (units n))
+  unfolding validStreamName
+  stored-valid =
+      by-cases (wellStored (length n) n)
+      (λ e. rw (e, validStreamName, le-leb (length (units n)) (length n) (units-fit n)) (units-pass n (sym (well-stored n) ∙ e)))
+      (λ e. rw e)
+
+-- the dots, by the first three places
+
+no-more : (us : List ℕ) → same us [] ≡ isEmpty us
+unfolding same isEmpty
+no-more [] = refl
+no-more (u ∷ us) = refl
+
+module _ (n : List ℕ) where
+  pub dots-not : (getD n 0 0 ≡ dot → ⊥) → dots (units n) ≡ false
+  unfolding same
+  dots-not ne =
+      by-cases (eqb (getD n 0 0) 0) (λ e. rw (units-end n 0 (eqb-true (getD n 0 0) 0 e)))
+      (λ e. rw (units-next n 0 (eqb-false (getD n 0 0) 0 e), ne-eqb (getD n 0 0) dot ne))
+
+  module _ (first : getD n 0 0 ≡ dot) where
+    first-dot : units n ≡ dot ∷ units (drop 1 n)
+    first-dot = units-next n 0 (λ z. let w : ⊥ = omega arith in w) ∙ ap (λ (u : ℕ). u ∷ units (drop 1 n)) first
+
+    pub dots-one : getD n 1 0 ≡ 0 → dots (units n) ≡ true
+    unfolding same
+    dots-one e = rw (first-dot, units-end n 1 e)
+
+    pub dots-two : getD n 1 0 ≡ dot → dots (units n) ≡ eqb (getD n 2 0) 0
+    unfolding same
+    dots-two e =
+        rw (first-dot, units-next n 1 (λ z. let w : ⊥ = omega arith in w), e) (no-more (units (drop 2 n)) ∙ units-none n 2)
+
+    pub dots-other : (getD n 1 0 ≡ 0 → ⊥) → (getD n 1 0 ≡ dot → ⊥) → dots (units n) ≡ false
+    unfolding same
+    dots-other some ne = rw (first-dot, units-next n 1 some, ne-eqb (getD n 1 0) dot ne)
+
+-- whole names
+module _ (n : List ℕ) where
+  pub good-file-empty : getD n 0 0 ≡ 0 → goodFileName n ≡ false
+  unfolding goodFileName validFileName isEmpty
+  good-file-empty e = rw (goodFileName, units-end n 0 e) (and-false (wellStored fileNameLimit n))
+
+  pub good-file-dots : dots (units n) ≡ true → goodFileName n ≡ false
+  unfolding goodFileName
+  good-file-dots e = rw (goodFileName, file-name-dots fileNameLimit (units n) e) (and-false (wellStored fileNameLimit n))
+
+  module _ (long : length n ≡ fileNameLimit) where
+    pub good-file-other : (getD n 0 0 ≡ 0 → ⊥) → dots (units n) ≡ false → (wellStored fileNameLimit n && all zeroOrValid n) ≡ goodFileName n
+    unfolding goodFileName
+    good-file-other some e =
+        rw (goodFileName, file-name-other fileNameLimit (units n) (λ z. let w : ⊥ = omega (arith, ap length (units-next n 0 some)) in w) e)
+        (rw long at (stored-valid n))
+
+    pub good-stream-empty : getD n 0 0 ≡ 0 → same n (replicate (length n) 0) ≡ goodStreamName n
+    unfolding goodStreamName validStreamName all
+    good-stream-empty e =
+        rw (goodStreamName, units-end n 0 e, long)
+        (sym (and-true (wellStored streamNameLimit n) ∙ zeros-stored streamNameLimit n e))
+
+    pub good-stream-other : (wellStored fileNameLimit n && all zeroOrValid n) ≡ goodStreamName n
+    unfolding goodStreamName
+    good-stream-other = rw long at (stored-valid n)

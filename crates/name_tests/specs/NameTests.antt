@@ -1,0 +1,14 @@
+-- What is asked of a name in a used slot: it is well stored, and its units are a valid name.
+use Rattle.base.specs.Base.{ℕ, Bool, _&&_, _||_, List, eqb, fileNameLimit, streamNameLimit}
+use Rattle.names.specs.Names.{validUnit, validFileName, validStreamName}
+use Rattle.stored_names.specs.StoredNames.{units, wellStored}
+
+unfoldable pub goodFileName : List ℕ → Bool
+goodFileName n = wellStored fileNameLimit n && validFileName fileNameLimit (units n)
+
+unfoldable pub goodStreamName : List ℕ → Bool
+goodStreamName n = wellStored streamNameLimit n && validStreamName streamNameLimit (units n)
+
+-- a place of such a name
+abbrev pub zeroOrValid : ℕ → Bool
+zeroOrValid u = eqb u 0 || validUnit u
