@@ -41,23 +41,23 @@ counts-other n o os e =
     (λ u. ap (countsOf (stream n)) (keep-no openUsed o os u))
 
 -- the pass over the rows from the last one: the counts are those of the rows passed
-pub record Tallied (rows : List Open) (counts : List ShareCounts) (i : ℕ) : Type 0 where
+pub record CountsPass (rows : List Open) (counts : List ShareCounts) (i : ℕ) : Type 0 where
   pub place : i ≤ openSlots
   pub size : length counts ≡ streamSlots
   pub counted : Noted zeroCounts streamSlots counts (λ n. countsOn n (drop i rows))
 
 module _ (rows : List Open) (long : length rows ≡ openSlots) where
-  pub tally-begins : Tallied rows (replicate streamSlots zeroCounts) openSlots
-  tally-begins =
+  pub counting-begins : CountsPass rows (replicate streamSlots zeroCounts) openSlots
+  counting-begins =
       record { place = omega arith; size = refl; counted = none-counted streamSlots rows openSlots (omega arith) }
 
   -- one row more, as it was read: it is counted on its stream, or there is nothing to count
-  module _ {counts : List ShareCounts} (i : ℕ) (positive : 0 < i) (pass : Tallied rows counts i)
+  module _ {counts : List ShareCounts} (i : ℕ) (positive : 0 < i) (pass : CountsPass rows counts i)
       {o : Open} (read : o ≡ getD rows (i - 1) zeroOpen) where
-    pub tally-counts : openUsed o ≡ true → streamNo o < streamSlots → {after : ShareCounts}
+    pub counting-counts : openUsed o ≡ true → streamNo o < streamSlots → {after : ShareCounts}
         → after ≡ withOpenUpTo countLimit o (getD counts (streamNo o) zeroCounts)
-        → Tallied rows (set counts (streamNo o) after) (i - 1)
-    tally-counts used below {after} e =
+        → CountsPass rows (set counts (streamNo o) after) (i - 1)
+    counting-counts used below {after} e =
         record {
           place = omega (arith, pass .place);
           size = length-set counts (streamNo o) after ∙ pass .size;
@@ -71,8 +71,8 @@ module _ (rows : List Open) (long : length rows ≡ openSlots) where
               ∙ sym (counts-own countLimit o (drop i rows) used (omega (arith, length-drop i rows))))));
         }
 
-    pub tally-skips : (openUsed o ≡ false) ⊎ (streamSlots ≤ streamNo o) → Tallied rows counts (i - 1)
-    tally-skips w =
+    pub counting-skips : (openUsed o ≡ false) ⊎ (streamSlots ≤ streamNo o) → CountsPass rows counts (i - 1)
+    counting-skips w =
         record {
           place = omega (arith, pass .place);
           size = pass .size;
@@ -81,9 +81,9 @@ module _ (rows : List Open) (long : length rows ≡ openSlots) where
               streamSlots counts (pass .counted) (rw read at w);
         }
 
-  pub tally-ends : {counts : List ShareCounts} {i : ℕ} → i ≡ 0 → Tallied rows counts i
+  pub counting-ends : {counts : List ShareCounts} {i : ℕ} → i ≡ 0 → CountsPass rows counts i
       → (n : ℕ) → n < streamSlots → getD counts n zeroCounts ≡ countsOn n rows
-  tally-ends end pass n b = pass .counted n b ∙ ap (λ (m : ℕ). countsOn n (drop m rows)) end
+  counting-ends end pass n b = pass .counted n b ∙ ap (λ (m : ℕ). countsOn n (drop m rows)) end
 
 -- a stream's counts against those found
 abbrev pub foundTest : List ShareCounts → ℕ → Stream → Bool

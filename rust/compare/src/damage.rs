@@ -71,7 +71,7 @@ fn damage(rng: &mut Rng, tables: &mut Vec<u8>) {
         80..84 => copy_name(rng, tables),
         84..88 => attributes_or_mask(rng, tables),
         88..90 => copy_handle(rng, tables),
-        _ => change_open_with_tallies(rng, tables),
+        _ => change_open_with_counts(rng, tables),
     }
 }
 
@@ -273,25 +273,25 @@ fn copy_handle(rng: &mut Rng, tables: &mut [u8]) {
     tables.copy_within(from.start..from.start + 8, to.start);
 }
 
-/// An open with another access or sharing mode, and all tallies made true again: sound,
-/// unless opens clash.
-fn change_open_with_tallies(rng: &mut Rng, tables: &mut [u8]) {
+/// An open with another access or sharing mode, and all counts made true again: sound,
+/// unless opens conflict.
+fn change_open_with_counts(rng: &mut Rng, tables: &mut [u8]) {
     let open = OPEN.some(rng, tables).start;
     let access: u32 = rng.pick(&[0x1, 0x2, 0x20, 0x4, 0x80, 0x1_0000, 0x3, 0x1F_01FF]);
     let share: u32 = rng.pick(&[0, 1, 2, 3, 4, 5, 6, 7, 7, 7]);
     tables[open + 12..open + 16].copy_from_slice(&access.to_le_bytes());
     tables[open + 16..open + 20].copy_from_slice(&share.to_le_bytes());
     for stream in 0..STREAMS {
-        let tallies = tallies_of(tables, stream);
-        for (number, tally) in tallies.into_iter().enumerate() {
-            put(tables, STREAM.record(stream).start + 68 + 2 * number, tally);
+        let counts = counts_of(tables, stream);
+        for (number, count) in counts.into_iter().enumerate() {
+            put(tables, STREAM.record(stream).start + 68 + 2 * number, count);
         }
     }
 }
 
-/// The tallies of a stream, counted from the opens.
-fn tallies_of(tables: &[u8], stream: usize) -> [u16; 7] {
-    let mut tallies = [0; 7];
+/// The counts of a stream, counted from the opens.
+fn counts_of(tables: &[u8], stream: usize) -> [u16; 7] {
+    let mut counts = [0; 7];
     for number in 0..OPENS {
         let open = &tables[OPEN.record(number)];
         if open[..8] == [0; 8] || usize::from(get(open, 10)) != stream {
@@ -300,12 +300,12 @@ fn tallies_of(tables: &[u8], stream: usize) -> [u16; 7] {
         let (low, high, share) = (get(open, 12), get(open, 14), get(open, 16));
         let kinds = [low & 0x21 != 0, low & 0x6 != 0, high & 0x1 != 0];
         if kinds.contains(&true) {
-            tallies[0] += 1;
+            counts[0] += 1;
             for kind in 0..3 {
-                tallies[1 + kind] += u16::from(kinds[kind]);
-                tallies[4 + kind] += share >> kind & 1;
+                counts[1 + kind] += u16::from(kinds[kind]);
+                counts[4 + kind] += share >> kind & 1;
             }
         }
     }
-    tallies
+    counts
 }

@@ -4,7 +4,7 @@ use crate::constants::*;
 use crate::layout::*;
 use crate::names::{is_file_name, is_stream_name, stored_units, Unit};
 use crate::seen::{mix, Seen};
-use crate::sharing::Tallies;
+use crate::sharing::ShareCounts;
 
 /// A set of files, a bit each.
 type FileSet = u128;
@@ -31,7 +31,7 @@ fn add(set: &mut FileSet, file: usize) -> bool {
 }
 
 /// What audit answers: whether the tables are sound.
-pub fn is_sound(tables: &Tables) -> bool {
+pub fn is_consistent(tables: &Tables) -> bool {
     if tables.mark() > 1 || tables.next_handle() == 0 {
         return false;
     }
@@ -116,16 +116,16 @@ fn all_reach_root(parents: &[u8; FILES], files: FileSet) -> bool {
     true
 }
 
-/// Opens are good, and tallies and streams agree with them and with the files.
+/// Opens are good, and counts and streams agree with them and with the files.
 fn check_opens_and_streams(tables: &Tables, files: &Files) -> bool {
-    let mut tallies = [Tallies::default(); STREAMS];
-    check_opens(tables, &mut tallies) && check_streams(tables, files, &tallies)
+    let mut counts = [ShareCounts::default(); STREAMS];
+    check_opens(tables, &mut counts) && check_streams(tables, files, &counts)
 }
 
 /// Each open names a used stream and its file, handles are distinct and below the next
-/// one, and no two opens on a stream clash: none does with those before it. Counts the
+/// one, and no two opens on a stream conflict: none does with those before it. Counts the
 /// opens of each stream.
-fn check_opens(tables: &Tables, tallies: &mut [Tallies; STREAMS]) -> bool {
+fn check_opens(tables: &Tables, counts: &mut [ShareCounts; STREAMS]) -> bool {
     let mut seen = Seen::new();
     let next_handle = tables.next_handle();
     for (number, open) in tables.opens().enumerate() {
@@ -149,11 +149,11 @@ fn check_opens(tables: &Tables, tallies: &mut [Tallies; STREAMS]) -> bool {
         if stream.kind() == 0 || stream.file() != open.file() {
             return false;
         }
-        let tallies = &mut tallies[open.stream()];
-        if tallies.clashes(granted, share) {
+        let counts = &mut counts[open.stream()];
+        if counts.conflicts(granted, share) {
             return false;
         }
-        tallies.add(granted, share);
+        counts.add(granted, share);
         let same = |other| tables.open(other).handle() == handle;
         if !seen.insert(mix(0, handle), number, same) {
             return false;
@@ -162,9 +162,9 @@ fn check_opens(tables: &Tables, tallies: &mut [Tallies; STREAMS]) -> bool {
     true
 }
 
-/// Streams are of their files' kinds, tallies are true, and each file has one stream with
+/// Streams are of their files' kinds, counts are true, and each file has one stream with
 /// the empty name, a directory no other; no two streams of one file have the same name.
-fn check_streams(tables: &Tables, files: &Files, tallies: &[Tallies; STREAMS]) -> bool {
+fn check_streams(tables: &Tables, files: &Files, counts: &[ShareCounts; STREAMS]) -> bool {
     let mut seen = Seen::new();
     let mut with_empty_name: FileSet = 0;
     for (number, stream) in tables.streams().enumerate() {
@@ -181,7 +181,7 @@ fn check_streams(tables: &Tables, files: &Files, tallies: &[Tallies; STREAMS]) -
             DIRECTORY => has(files.directories, file),
             _ => false,
         };
-        if !right_file || stream.tallies() != tallies[number] {
+        if !right_file || stream.counts() != counts[number] {
             return false;
         }
         let name = stored_units(stream.name());

@@ -1,7 +1,7 @@
 //! The byte form of the tables: where each record and field stands.
 //! Numbers stand least significant byte first, without padding.
 
-use crate::sharing::Tallies;
+use crate::sharing::ShareCounts;
 
 pub const FILES: usize = 128;
 pub const LINKS: usize = 192;
@@ -143,8 +143,8 @@ impl<'a> Stream<'a> {
     pub fn name(self) -> &'a NameBytes {
         field(self.0, 4)
     }
-    pub fn tallies(self) -> Tallies {
-        Tallies::from_bytes(field(self.0, 68))
+    pub fn counts(self) -> ShareCounts {
+        ShareCounts::from_bytes(field(self.0, 68))
     }
     pub fn is_zero(self) -> bool {
         all_zero(self.0)
@@ -298,8 +298,8 @@ impl<'a> TablesMut<'a> {
         self.put(at + 2, (file as u16).to_le_bytes());
         self.put(at + 4, name);
     }
-    pub fn set_tallies(&mut self, stream: usize, tallies: Tallies) {
-        self.put(STREAMS_AT + stream * STREAM_SIZE + 68, tallies.to_bytes());
+    pub fn set_counts(&mut self, stream: usize, counts: ShareCounts) {
+        self.put(STREAMS_AT + stream * STREAM_SIZE + 68, counts.to_bytes());
     }
     pub fn set_open(&mut self, number: usize, open: &OpenRecord) {
         let at = OPENS_AT + number * OPEN_SIZE;

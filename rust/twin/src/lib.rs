@@ -1,4 +1,4 @@
-//! The open desk of document 01: format, open, close, set read-only and audit, over tables
+//! The open steps of document 01: format, open, close, set read-only and audit, over tables
 //! in the byte form of docs/LAYOUT.md.
 //!
 //! Each call but format first tests that the tables are sound. A call that is refused
@@ -78,7 +78,7 @@ pub fn open(tables: &mut [u8], request: &OpenRequest, path: &[u8]) -> OpenReply 
 }
 
 fn try_open(tables: &mut [u8], request: &OpenRequest, path: &[u8]) -> Result<OpenReply, Status> {
-    let mut tables = sound(tables)?;
+    let mut tables = consistent(tables)?;
     let plan = steps::decide(&tables.view(), request, path)?;
     let handle = store::store(&mut tables, &plan)?;
     Ok(OpenReply {
@@ -89,13 +89,13 @@ fn try_open(tables: &mut [u8], request: &OpenRequest, path: &[u8]) -> Result<Ope
     })
 }
 
-/// Frees the open of that handle and takes it out of its stream's tallies.
+/// Frees the open of that handle and takes it out of its stream's counts.
 pub fn close(tables: &mut [u8], handle: u64) -> u32 {
     code(try_close(tables, handle))
 }
 
 fn try_close(tables: &mut [u8], handle: u64) -> Result<(), Status> {
-    let mut tables = sound(tables)?;
+    let mut tables = consistent(tables)?;
     let view = tables.view();
     let slot = view
         .opens()
@@ -103,27 +103,27 @@ fn try_close(tables: &mut [u8], handle: u64) -> Result<(), Status> {
         .ok_or(Status::InvalidHandle)?;
     let open = view.open(slot);
     let stream = open.stream();
-    let mut tallies = view.stream(stream).tallies();
-    tallies.remove(open.granted(), open.share());
-    tables.set_tallies(stream, tallies);
+    let mut counts = view.stream(stream).counts();
+    counts.remove(open.granted(), open.share());
+    tables.set_counts(stream, counts);
     tables.clear_open(slot);
     Ok(())
 }
 
 /// Sets the read-only mark, or clears it for 0.
 pub fn set_read_only(tables: &mut [u8], read_only: u32) -> u32 {
-    code(sound(tables).map(|mut tables| tables.set_read_only(read_only != 0)))
+    code(consistent(tables).map(|mut tables| tables.set_read_only(read_only != 0)))
 }
 
 /// Whether the tables are sound.
 pub fn audit(tables: &[u8]) -> bool {
-    Tables::new(tables).is_some_and(|tables| consistency::is_sound(&tables))
+    Tables::new(tables).is_some_and(|tables| consistency::is_consistent(&tables))
 }
 
 /// The tables, if they are sound.
-fn sound(tables: &mut [u8]) -> Result<TablesMut<'_>, Status> {
+fn consistent(tables: &mut [u8]) -> Result<TablesMut<'_>, Status> {
     let tables = TablesMut::new(tables).ok_or(Status::FileCorruptError)?;
-    if !consistency::is_sound(&tables.view()) {
+    if !consistency::is_consistent(&tables.view()) {
         return Err(Status::FileCorruptError);
     }
     Ok(tables)

@@ -2,8 +2,8 @@
 
 use crate::constants::*;
 
-pub const TALLIES: usize = 7;
-pub const TALLIES_SIZE: usize = 2 * TALLIES;
+pub const COUNTS: usize = 7;
+pub const COUNTS_SIZE: usize = 2 * COUNTS;
 
 /// The kinds of access held, by the bits of the sharing modes that allow them.
 #[inline(always)]
@@ -17,21 +17,21 @@ pub fn held(granted: u32) -> u32 {
 /// A stream's counted opens, then readers, writers, deleters, then those who share
 /// reading, writing, deleting.
 #[derive(Clone, Copy, Debug, Default, PartialEq, Eq)]
-pub struct Tallies([u16; TALLIES]);
+pub struct ShareCounts([u16; COUNTS]);
 
-impl Tallies {
-    pub fn from_bytes(bytes: &[u8; TALLIES_SIZE]) -> Self {
-        Tallies(std::array::from_fn(|n| u16::from_le_bytes([bytes[2 * n], bytes[2 * n + 1]])))
+impl ShareCounts {
+    pub fn from_bytes(bytes: &[u8; COUNTS_SIZE]) -> Self {
+        ShareCounts(std::array::from_fn(|n| u16::from_le_bytes([bytes[2 * n], bytes[2 * n + 1]])))
     }
-    pub fn to_bytes(self) -> [u8; TALLIES_SIZE] {
+    pub fn to_bytes(self) -> [u8; COUNTS_SIZE] {
         std::array::from_fn(|n| self.0[n / 2].to_le_bytes()[n % 2])
     }
 
-    /// The tallies of one counted open.
+    /// The counts of one counted open.
     #[inline(always)]
     fn of_one(held: u32, share: u32) -> Self {
         let bit = |set: u32, n: u32| (set >> n & 1) as u16;
-        Tallies([
+        ShareCounts([
             1,
             bit(held, 0),
             bit(held, 1),
@@ -48,8 +48,8 @@ impl Tallies {
         let held = held(granted);
         if held != 0 {
             let one = Self::of_one(held, share);
-            for (tally, more) in self.0.iter_mut().zip(one.0) {
-                *tally += more;
+            for (count, more) in self.0.iter_mut().zip(one.0) {
+                *count += more;
             }
         }
     }
@@ -59,16 +59,16 @@ impl Tallies {
         let held = held(granted);
         if held != 0 {
             let one = Self::of_one(held, share);
-            for (tally, less) in self.0.iter_mut().zip(one.0) {
-                *tally -= less;
+            for (count, less) in self.0.iter_mut().zip(one.0) {
+                *count -= less;
             }
         }
     }
 
-    /// Whether an open clashes with one of those counted: it holds a kind that not all
+    /// Whether an open conflicts with one of those counted: it holds a kind that not all
     /// of them share, or doesn't share a kind that one of them holds.
     #[inline(always)]
-    pub fn clashes(&self, granted: u32, share: u32) -> bool {
+    pub fn conflicts(&self, granted: u32, share: u32) -> bool {
         let held = held(granted);
         let [counted, holders @ .., _, _, _] = self.0;
         let sharers = &self.0[4..];
@@ -87,13 +87,13 @@ mod tests {
     use super::*;
 
     /// The pair rule, as it stands in document 01.
-    fn pair_clashes(a: (u32, u32), b: (u32, u32)) -> bool {
+    fn pair_conflicts(a: (u32, u32), b: (u32, u32)) -> bool {
         let (held_a, held_b) = (held(a.0), held(b.0));
         held_a != 0 && held_b != 0 && (held_a & !b.1 != 0 || held_b & !a.1 != 0)
     }
 
     #[test]
-    fn tallies_decide_as_pairs_do() {
+    fn counts_decide_as_pairs_do() {
         let accesses = [0x1, 0x2, 0x4, 0x20, 0x80, 0x10000, 0x3, 0x10002, 0x1F01FF];
         let modes: Vec<_> = accesses
             .into_iter()
@@ -101,14 +101,14 @@ mod tests {
             .collect();
         for &first in &modes {
             for &second in &modes {
-                let mut two = Tallies::default();
+                let mut two = ShareCounts::default();
                 two.add(first.0, first.1);
-                assert_eq!(two.clashes(second.0, second.1), pair_clashes(first, second));
+                assert_eq!(two.conflicts(second.0, second.1), pair_conflicts(first, second));
                 two.add(second.0, second.1);
                 for &third in &modes {
                     assert_eq!(
-                        two.clashes(third.0, third.1),
-                        pair_clashes(first, third) || pair_clashes(second, third)
+                        two.conflicts(third.0, third.1),
+                        pair_conflicts(first, third) || pair_conflicts(second, third)
                     );
                 }
             }
@@ -117,13 +117,13 @@ mod tests {
 
     #[test]
     fn attribute_only_opens_are_uncounted() {
-        let mut tallies = Tallies::default();
-        tallies.add(0x80, 0);
-        assert_eq!(tallies, Tallies::default());
-        tallies.add(0x1F01FF, 0);
-        assert!(!tallies.clashes(0x120190, 0));
-        tallies.remove(0x80, 7);
-        tallies.remove(0x1F01FF, 0);
-        assert_eq!(tallies, Tallies::default());
+        let mut counts = ShareCounts::default();
+        counts.add(0x80, 0);
+        assert_eq!(counts, ShareCounts::default());
+        counts.add(0x1F01FF, 0);
+        assert!(!counts.conflicts(0x120190, 0));
+        counts.remove(0x80, 7);
+        counts.remove(0x1F01FF, 0);
+        assert_eq!(counts, ShareCounts::default());
     }
 }

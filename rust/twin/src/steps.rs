@@ -30,15 +30,15 @@ pub fn decide(tables: &Tables, request: &OpenRequest, path: &[u8]) -> Result<Pla
     check_parameters(request)?;
     let path = Path::parse(path, request.options)?;
     check_disposition_on_read_only(tables, request)?;
-    let desk = Desk { tables, request };
-    let parent = desk.walk(&path)?;
+    let steps = Steps { tables, request };
+    let parent = steps.look_up(&path)?;
     let Some(last) = path.last else {
-        return desk.open_found(ROOT, None);
+        return steps.open_found(ROOT, None);
     };
-    let name = desk.name(last.file_name);
+    let name = steps.name(last.file_name);
     match find_link(tables, parent, &name) {
-        Some(file) => desk.open_found(file, Some(&last)),
-        None => desk.create_file(parent, name, &last),
+        Some(file) => steps.open_found(file, Some(&last)),
+        None => steps.create_file(parent, name, &last),
     }
 }
 
@@ -91,12 +91,12 @@ fn find_stream(tables: &Tables, file: usize, name: &Name) -> Option<usize> {
 }
 
 /// What steps 6 to 11 look at.
-struct Desk<'a> {
+struct Steps<'a> {
     tables: &'a Tables<'a>,
     request: &'a OpenRequest,
 }
 
-impl Desk<'_> {
+impl Steps<'_> {
     fn name(&self, units: &[[u8; 2]]) -> Name {
         Name::new(units, self.request.fold != 0)
     }
@@ -110,7 +110,7 @@ impl Desk<'_> {
     }
 
     /// Step 6: the directory that holds the last component.
-    fn walk(&self, path: &Path) -> Result<usize, Status> {
+    fn look_up(&self, path: &Path) -> Result<usize, Status> {
         path.directories().try_fold(ROOT, |parent, component| {
             find_link(self.tables, parent, &self.name(component))
                 .filter(|file| self.tables.file(*file).is_directory())
@@ -304,9 +304,9 @@ impl Desk<'_> {
         Ok(if access & MAXIMUM_ALLOWED != 0 { effective } else { need })
     }
 
-    /// The sharing rule, by the stream's tallies.
+    /// The sharing rule, by the stream's counts.
     fn check_sharing(&self, stream: usize, granted: u32) -> Result<(), Status> {
-        if self.tables.stream(stream).tallies().clashes(granted, self.request.share) {
+        if self.tables.stream(stream).counts().conflicts(granted, self.request.share) {
             return Err(Status::SharingViolation);
         }
         Ok(())

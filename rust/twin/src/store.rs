@@ -20,9 +20,9 @@ pub fn store(tables: &mut TablesMut, plan: &Plan) -> Result<u64, Status> {
         return Err(Status::InsufficientResources);
     }
     let (file, stream) = store_target(tables, &plan.target, &slots);
-    let mut tallies = tables.view().stream(stream).tallies();
-    tallies.add(plan.granted, plan.share);
-    tables.set_tallies(stream, tallies);
+    let mut counts = tables.view().stream(stream).counts();
+    counts.add(plan.granted, plan.share);
+    tables.set_counts(stream, counts);
     tables.set_open(
         slots.open,
         &OpenRecord { handle, file, stream, granted: plan.granted, share: plan.share },

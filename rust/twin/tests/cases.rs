@@ -50,7 +50,7 @@ fn cases_6_to_10_on_g() {
 
     let mut volume = g();
     volume.accept(ask(0x80, 0, 1, 0), "a", CreateAction::Opened);
-    assert_eq!(volume.tallies(1), g().tallies(1));
+    assert_eq!(volume.counts(1), g().counts(1));
 
     g().refuse(ask(0x80, 7, 5, 0), "a", Status::SharingViolation);
 
@@ -62,7 +62,7 @@ fn cases_6_to_10_on_g() {
 fn case_11_close_twice() {
     let mut volume = g();
     assert_eq!(volume.close(1), 0);
-    assert_eq!(volume.tallies(1), [0; 7]);
+    assert_eq!(volume.counts(1), [0; 7]);
     assert!(volume.0[OPENS_AT..].iter().all(|byte| *byte == 0));
     assert_eq!(volume.close(1), Status::InvalidHandle.code());
     assert_eq!(volume.accept(ask(1, 0, 1, 0), "a", CreateAction::Opened), 2);
@@ -172,7 +172,7 @@ fn format_tests_length_then_masks() {
 }
 
 #[test]
-fn unsound_tables_are_refused_first() {
+fn inconsistent_tables_are_refused_first() {
     let mut tables = Volume::fresh().0;
     tables[10] = 3;
     let before = tables.clone();

@@ -84,7 +84,7 @@ fn step_4_names() {
     for path in bad {
         volume.refuse(ask(1, 7, 3, 0), path, Status::ObjectNameInvalid);
     }
-    // Step 4 comes before the volume's mark and before the walk.
+    // Step 4 comes before the volume's mark and before the look_up.
     volume.read_only(1);
     volume.refuse(ask(1, 7, 2, 0), "x\\y*", Status::ObjectNameInvalid);
     volume.read_only(0);
@@ -245,7 +245,7 @@ fn step_10_share_read_is_added() {
     volume.refuse(of(1, 0x2_0000), "", Status::AccessDenied);
     let handle = volume.accept(of(1, 0), "", CreateAction::Opened);
     assert_eq!(volume.share(0), 3);
-    assert_eq!(volume.tallies(0), [1, 1, 0, 0, 1, 1, 0]);
+    assert_eq!(volume.counts(0), [1, 1, 0, 0, 1, 1, 0]);
     assert_eq!(volume.close(handle), 0);
     let handle = volume.accept(of(2, 0), "", CreateAction::Opened);
     assert_eq!(volume.share(0), 3);

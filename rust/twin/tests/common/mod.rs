@@ -103,7 +103,7 @@ impl Volume {
         u32::from_le_bytes(self.0[at..at + 4].try_into().unwrap())
     }
 
-    pub fn tallies(&self, stream: usize) -> [u16; 7] {
+    pub fn counts(&self, stream: usize) -> [u16; 7] {
         std::array::from_fn(|n| self.u16(STREAMS_AT + STREAM_SIZE * stream + 68 + 2 * n))
     }
 
