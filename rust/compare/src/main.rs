@@ -73,7 +73,7 @@ impl Counts {
 }
 
 /// The volume under test and how it came to be as it is.
-struct Session {
+struct Comparison {
     rng: Rng,
     pair: Pair,
     mood: Mood,
@@ -83,9 +83,9 @@ struct Session {
     counts: Counts,
 }
 
-impl Session {
+impl Comparison {
     fn new(seed: u64) -> Self {
-        Session {
+        Comparison {
             rng: Rng::new(seed),
             pair: Pair::new(&vec![0xEE; TABLES_SIZE]),
             mood: Mood::Mixed,
@@ -249,17 +249,17 @@ fn argument(number: usize, default: u64) -> u64 {
 
 fn main() -> ExitCode {
     let (calls, seed) = (argument(1, DEFAULT_CALLS), argument(2, DEFAULT_SEED));
-    let mut session = Session::new(seed);
-    while session.counts.calls < calls {
-        if let Err(what) = session.one_volume(calls) {
-            session.print_history();
-            eprintln!("compare: difference after {} calls, seed {seed}", session.counts.calls);
+    let mut comparison = Comparison::new(seed);
+    while comparison.counts.calls < calls {
+        if let Err(what) = comparison.one_volume(calls) {
+            comparison.print_history();
+            eprintln!("compare: difference after {} calls, seed {seed}", comparison.counts.calls);
             eprintln!("{what}");
             return ExitCode::FAILURE;
         }
     }
-    let missing = session.counts.missing();
-    println!("{}", session.counts.summary(seed));
+    let missing = comparison.counts.missing();
+    println!("{}", comparison.counts.summary(seed));
     if calls >= DEFAULT_CALLS && !missing.is_empty() {
         eprintln!("compare: statuses never seen: {}", missing.join(", "));
         return ExitCode::FAILURE;
