@@ -131,7 +131,7 @@ fn rows_consistent(b: &[u8]) -> bool
         return false;
     }
     let mut keys = [0u64; OPEN_SLOTS];
-    let mut i: usize = OPEN_SLOTS;
+    let mut i = OPEN_SLOTS;
     while 0 < i {
         i -= 1;
         let o = read_open(b, i);
