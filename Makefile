@@ -15,7 +15,7 @@ VERSION = 0.1
 SOURCES := $(shell find crates -name '*.rt' -o -name '*.antt') crates.txt
 
 CALLS ?= 100000
-SEED ?= 1
+SEED ?= 14
 CARGO = ZANTHUPRA_LIB_DIR='$(CURDIR)/build' CARGO_TARGET_DIR='$(CURDIR)/build/cargo' RUSTFLAGS=-Dwarnings cargo
 QUIET = --manifest-path rust/Cargo.toml --offline --quiet
 
