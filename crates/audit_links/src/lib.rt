@@ -52,7 +52,7 @@ fn good_link(l: Link, of: FileType, above: FileType) -> bool
     ensures { λ r. ⌜ r ≡ goodLink of above l ⌝ }
 {
     let name = l.name;
-    if !good_file_name(name) {
+    if !good_file_name(&name) {
         return false;
     }
     is_used(of) && is_directory(above)
@@ -198,7 +198,7 @@ pub fn links_consistent(b: &[u8]) -> bool
         }
         let name = l.name;
         let used = link_used(l);
-        keys[i] = if used { name_key(parent.0, name) } else { 0 };
+        keys[i] = if used { name_key(parent.0, &name) } else { 0 };
         if used {
             let f = file.0 as usize;
             counts[f] = counts[f] + 1;

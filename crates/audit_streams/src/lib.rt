@@ -45,7 +45,7 @@ fn good_stream(s: Stream, of: FileType) -> bool
 {
     let name = s.name;
     let t = s.stream_type;
-    if !good_stream_name(name) {
+    if !good_stream_name(&name) {
         return false;
     }
     is_used(of) & (is_directory(t) == is_directory(of))
@@ -158,7 +158,7 @@ pub fn streams_consistent(b: &[u8]) -> bool
         }
         let name = s.name;
         let used = stream_used(s);
-        keys[i] = if used { name_key(file.0, name) } else { 0 };
+        keys[i] = if used { name_key(file.0, &name) } else { 0 };
         let f = file.0 as usize;
         if used && f < FILE_SLOTS {
             all[f] = all[f] + 1;

@@ -83,15 +83,21 @@ fn weigh(unit: u16, low: u16, high: u16) -> u32
     (unit % 256) as u32 * low as u32 + (unit / 256) as u32 * high as u32
 }
 
-// The key of a name, by all its places. A zero adds nothing, so that the places after the last unit do not count.
-pub fn name_key(number: u16, name: [u16; FILE_NAME_LIMIT]) -> u64
-    ensures { λ r. ⌜ r ≡ nameKey number name ⌝ }
+// The key of a name, by all its places that have a weight. A zero adds nothing, so that the places after the last unit do
+// not count.
+pub fn name_key(number: u16, name: &[u16]) -> u64
+    ensures { λ r. ⌜ r ≡ nameKey number (now (name .entry)) ⌝ }
 {
+    let end = if name.len() < FILE_NAME_LIMIT {
+        name.len()
+    } else {
+        FILE_NAME_LIMIT
+    };
     let low = LOW;
     let high = HIGH;
     let mut sum: u32 = 0;
     let mut i: usize = 0;
-    while i < FILE_NAME_LIMIT {
+    while i < end {
         sum = sum + weigh(name[i], low[i], high[i]);
         i += 1;
     }

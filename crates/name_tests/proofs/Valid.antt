@@ -1,11 +1,13 @@
 -- The places of a well stored name: each is zero or valid exactly where the units are. And the dots.
-use Rattle.base.{specs.Base.{ℕ, zero, suc, _+_, _<_, _≡_, Bool, true, false, _&&_, List, [], _∷_, eqb, length, getD, drop, all, same, isEmpty, replicate, fileNameLimit, streamNameLimit}, proofs.Laws.{refl, sym, _∙_, ap, arith, by-cases, and-left, and-right, le-leb, eqb-true, eqb-false, ne-eqb, drop-next}}
+use Rattle.base.{specs.Base.{ℕ, zero, suc, _+_, _-_, _<_, _≡_, Bool, true, false, _&&_, List, [], _∷_, eqb, leb, length, getD, drop, all, same, isEmpty, replicate, padded, fileNameLimit, streamNameLimit}, proofs.Laws.{refl, sym, _∙_, ap, arith, by-cases, and-left, and-right, le-leb, same-is, eqb-true, eqb-false, ne-eqb, drop-next}}
 use lib.Dec.{eqb·suc-zero}
+use borrow.Author.Tests.{leb-true, leb-false}
+use lib.ListN.{length-append, length-replicate}
 use mathlib.Core.Bool.{and-true, and-false}
 use Rattle.units.specs.Units.{dot}
-use Rattle.names.{specs.Names.{validUnit, validFileName, validStreamName}, proofs.ValidNames.{dots, file-name-dots, file-name-other}}
+use Rattle.names.{specs.Names.{validUnit, validFileName, validStreamName}, proofs.ValidNames.{dots, file-name-dots, file-name-long, file-name-other, stream-name-long}}
 use Rattle.stored_names.{specs.StoredNames.{units, wellStored}, proofs.{NameUnits.{units-end, units-next, units-none}, StoredUnits.{isZero, well-stored, units-fit, zeros-stored}}}
-use Rattle.name_tests.specs.NameTests.{goodFileName, goodStreamName, zeroOrValid}
+use Rattle.name_tests.specs.NameTests.{goodFileName, goodStreamName, fitsStored, zeroOrValid}
 
 -- one place more
 pub places-next : (n : List ℕ) (i : ℕ) → i < length n → all zeroOrValid (drop i n) ≡ (zeroOrValid (getD n i 0) && all zeroOrValid (drop (i + 1) n))
@@ -62,8 +64,30 @@ module _ (n : List ℕ) where
     unfolding same
     dots-other some ne = rw (first-dot, units-next n 1 some, ne-eqb (getD n 1 0) dot ne)
 
+-- a name of another length is not well stored, or has too many units
+module _ (limit : ℕ) (n : List ℕ) (other : length n ≡ limit → ⊥) where
+  stored-long : wellStored limit n ≡ true → limit < length (units n)
+  unfolding wellStored padded
+  stored-long h =
+      let u = units n in
+      let k = ap length (same-is n (padded limit u) h) ∙ length-append u (replicate (limit - length u) 0) in
+      by-cases (leb (length u) limit)
+      (λ e. absurd (other (omega (arith, leb-true (length u) limit e, k, length-replicate {A = ℕ} (limit - length u) 0))))
+      (λ e. leb-false (length u) limit e)
+
+  pub length-test : (valid : Bool) → (limit < length (units n) → valid ≡ false) → (wellStored limit n && valid) ≡ false
+  length-test valid long = by-cases (wellStored limit n) (λ e. rw e (long (stored-long e))) (λ e. rw e)
+
 -- whole names
 module _ (n : List ℕ) where
+  pub good-file-length : (length n ≡ fileNameLimit → ⊥) → goodFileName n ≡ false
+  unfolding goodFileName
+  good-file-length h = length-test fileNameLimit n h (validFileName fileNameLimit (units n)) (file-name-long fileNameLimit (units n))
+
+  pub good-stream-length : (length n ≡ streamNameLimit → ⊥) → goodStreamName n ≡ false
+  unfolding goodStreamName
+  good-stream-length h = length-test streamNameLimit n h (validStreamName streamNameLimit (units n)) (stream-name-long streamNameLimit (units n))
+
   pub good-file-empty : getD n 0 0 ≡ 0 → goodFileName n ≡ false
   unfolding goodFileName validFileName isEmpty
   good-file-empty e = rw (goodFileName, units-end n 0 e) (and-false (wellStored fileNameLimit n))
@@ -72,19 +96,21 @@ module _ (n : List ℕ) where
   unfolding goodFileName
   good-file-dots e = rw (goodFileName, file-name-dots fileNameLimit (units n) e) (and-false (wellStored fileNameLimit n))
 
+  -- with the places of a record, the tests of all places decide
   module _ (long : length n ≡ fileNameLimit) where
-    pub good-file-other : (getD n 0 0 ≡ 0 → ⊥) → dots (units n) ≡ false → (wellStored fileNameLimit n && all zeroOrValid n) ≡ goodFileName n
+    pub good-file-other : (getD n 0 0 ≡ 0 → ⊥) → dots (units n) ≡ false → (fitsStored n && all zeroOrValid n) ≡ goodFileName n
     unfolding goodFileName
     good-file-other some e =
-        rw (goodFileName, file-name-other fileNameLimit (units n) (λ z. let w : ⊥ = omega (arith, ap length (units-next n 0 some)) in w) e)
+        rw (goodFileName, file-name-other fileNameLimit (units n) (λ z. let w : ⊥ = omega (arith, ap length (units-next n 0 some)) in w) e, long)
         (rw long at (stored-valid n))
 
+  module _ (long : length n ≡ streamNameLimit) where
     pub good-stream-empty : getD n 0 0 ≡ 0 → same n (replicate (length n) 0) ≡ goodStreamName n
     unfolding goodStreamName validStreamName all
     good-stream-empty e =
         rw (goodStreamName, units-end n 0 e, long)
         (sym (and-true (wellStored streamNameLimit n) ∙ zeros-stored streamNameLimit n e))
 
-    pub good-stream-other : (wellStored fileNameLimit n && all zeroOrValid n) ≡ goodStreamName n
+    pub good-stream-other : (fitsStored n && all zeroOrValid n) ≡ goodStreamName n
     unfolding goodStreamName
-    good-stream-other = rw long at (stored-valid n)
+    good-stream-other = rw (goodStreamName, long) (rw long at (stored-valid n))

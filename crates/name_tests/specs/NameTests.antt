@@ -1,5 +1,5 @@
 -- What is asked of a name in a used slot: it is well stored, and its units are a valid name.
-use Rattle.base.specs.Base.{ℕ, Bool, _&&_, _||_, List, eqb, fileNameLimit, streamNameLimit}
+use Rattle.base.specs.Base.{ℕ, Bool, _&&_, _||_, List, eqb, leb, length, fileNameLimit, streamNameLimit}
 use Rattle.names.specs.Names.{validUnit, validFileName, validStreamName}
 use Rattle.stored_names.specs.StoredNames.{units, wellStored}
 
@@ -8,6 +8,10 @@ goodFileName n = wellStored fileNameLimit n && validFileName fileNameLimit (unit
 
 unfoldable pub goodStreamName : List ℕ → Bool
 goodStreamName n = wellStored streamNameLimit n && validStreamName streamNameLimit (units n)
+
+-- a name of no more places than a record has, with zeros after its units
+abbrev pub fitsStored : List ℕ → Bool
+fitsStored n = leb (length n) fileNameLimit && wellStored (length n) n
 
 -- a place of such a name
 abbrev pub zeroOrValid : ℕ → Bool

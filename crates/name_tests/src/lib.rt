@@ -1,18 +1,18 @@
 // The tests of a name in a used slot. Each goes through all places without a branch, so that it is compiled to
-// instructions that take eight of them at once.
+// instructions that take eight of them at once. A name is lent, whatever its places.
 use names::valid_unit;
 use records::sizes::FILE_NAME_LIMIT;
 use records::sizes::STREAM_NAME_LIMIT;
+use stored_names::unit_at;
 use stored_names::zero_name;
 ghost use mathlib.Core.Path.{_≡_};
-ghost use mathlib.Core.Bool.{cond, _&&_, _||_};
+ghost use mathlib.Core.Bool.{cond, _||_};
 ghost use mathlib.Core.List.{_∷_, []};
 ghost use lib.Dec.{eqb};
 ghost use Rattle.lists.specs.Lists.{all, same};
-ghost use Rattle.records.specs.Sizes.{fileNameLimit};
 ghost use Rattle.units.specs.Units.{dot};
-ghost use Rattle.stored_names.specs.StoredNames.{units, wellStored};
-ghost use Rattle.name_tests.specs.NameTests.{goodFileName, goodStreamName, zeroOrValid};
+ghost use Rattle.stored_names.specs.StoredNames.{units};
+ghost use Rattle.name_tests.specs.NameTests.{goodFileName, goodStreamName, fitsStored, zeroOrValid};
 
 const DOT: u16 = 0x2E;
 
@@ -23,15 +23,19 @@ fn if_some(unit: u16, number: u16) -> u16
     if unit == 0 { 0 } else { number }
 }
 
-// Whether every place after the last unit is zero. The first odd numbers add up to the square of how many they are, and any
-// others to more: so the odd numbers of the places that are not zero tell whether these come first.
-fn well_stored(name: [u16; FILE_NAME_LIMIT]) -> bool
-    ensures { λ r. ⌜ r ≡ wellStored fileNameLimit name ⌝ }
+// Whether a name has no more places than a record, and every place after the last unit is zero. The first odd numbers add
+// up to the square of how many they are, and any others to more: so the odd numbers of the places that are not zero tell
+// whether these come first.
+fn well_stored(name: &[u16]) -> bool
+    ensures { λ r. ⌜ r ≡ fitsStored (now (name .entry)) ⌝ }
 {
+    if name.len() > FILE_NAME_LIMIT {
+        return false;
+    }
     let mut count: u16 = 0;
     let mut sum: u16 = 0;
     let mut i: usize = 0;
-    while i < FILE_NAME_LIMIT {
+    while i < name.len() {
         let unit = name[i];
         let odd = 2 * i as u16 + 1;
         count = count + if_some(unit, 1);
@@ -48,12 +52,12 @@ fn zero_or_valid(unit: u16) -> bool
 }
 
 // Whether every place is zero or has a valid unit.
-fn zeros_or_valid(name: [u16; FILE_NAME_LIMIT]) -> bool
-    ensures { λ r. ⌜ r ≡ all zeroOrValid name ⌝ }
+fn zeros_or_valid(name: &[u16]) -> bool
+    ensures { λ r. ⌜ r ≡ all zeroOrValid (now (name .entry)) ⌝ }
 {
     let mut valid = true;
     let mut i: usize = 0;
-    while i < FILE_NAME_LIMIT {
+    while i < name.len() {
         valid = valid & zero_or_valid(name[i]);
         i += 1;
     }
@@ -61,21 +65,25 @@ fn zeros_or_valid(name: [u16; FILE_NAME_LIMIT]) -> bool
 }
 
 // Whether a stored name is `.` or `..`.
-fn is_dots(name: [u16; FILE_NAME_LIMIT]) -> bool
-    ensures { λ r. ⌜ r ≡ (same (units name) (dot ∷ []) || same (units name) (dot ∷ dot ∷ [])) ⌝ }
+fn is_dots(name: &[u16]) -> bool
+    ensures { λ r. ⌜ r ≡ (same (units (now (name .entry))) (dot ∷ []) || same (units (now (name .entry))) (dot ∷ dot ∷ [])) ⌝ }
 {
-    if name[0] != DOT {
+    if unit_at(name, 0) != DOT {
         return false;
     }
-    if name[1] == 0 {
+    let second = unit_at(name, 1);
+    if second == 0 {
         return true;
     }
-    name[1] == DOT && name[2] == 0
+    second == DOT && unit_at(name, 2) == 0
 }
 
-pub fn good_file_name(name: [u16; FILE_NAME_LIMIT]) -> bool
-    ensures { λ r. ⌜ r ≡ goodFileName name ⌝ }
+pub fn good_file_name(name: &[u16]) -> bool
+    ensures { λ r. ⌜ r ≡ goodFileName (now (name .entry)) ⌝ }
 {
+    if name.len() != FILE_NAME_LIMIT {
+        return false;
+    }
     if name[0] == 0 {
         return false;
     }
@@ -86,11 +94,14 @@ pub fn good_file_name(name: [u16; FILE_NAME_LIMIT]) -> bool
 }
 
 // The empty name is common, and quickly told.
-pub fn good_stream_name(name: [u16; STREAM_NAME_LIMIT]) -> bool
-    ensures { λ r. ⌜ r ≡ goodStreamName name ⌝ }
+pub fn good_stream_name(name: &[u16]) -> bool
+    ensures { λ r. ⌜ r ≡ goodStreamName (now (name .entry)) ⌝ }
 {
+    if name.len() != STREAM_NAME_LIMIT {
+        return false;
+    }
     if name[0] != 0 {
         return well_stored(name) & zeros_or_valid(name);
     }
-    zero_name(&name)
+    zero_name(name)
 }

@@ -1,5 +1,6 @@
 -- Laws of valid units and names, as the code tests them.
 use Rattle.base.{specs.Base.{ℕ, _≤_, _<_, _≡_, Bool, true, false, not, _&&_, _||_, List, [], _∷_, eqb, leb, length, getD, all, isEmpty, same}, proofs.Laws.{refl, arith, le-leb, lt-leb, empty-length, eq-eqb, ne-eqb, same-lengths}}
+use mathlib.Core.Bool.{and-false}
 use Rattle.units.specs.Units.{dot}
 use Rattle.names.specs.Names.{validUnit, validFileName, validStreamName}
 
@@ -44,6 +45,10 @@ module _ (limit : ℕ) (n : List ℕ) where
   pub stream-name-units : length n ≤ limit → validStreamName limit n ≡ all validUnit n
   unfolding validStreamName
   stream-name-units h = rw (le-leb (length n) limit h)
+
+  pub file-name-long : limit < length n → validFileName limit n ≡ false
+  unfolding validFileName
+  file-name-long h = rw (lt-leb (length n) limit h, and-false (not (isEmpty n)))
 
   pub file-name-dots : dots n ≡ true → validFileName limit n ≡ false
   unfolding validFileName

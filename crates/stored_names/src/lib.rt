@@ -9,7 +9,7 @@ ghost use Rattle.units.specs.Units.{equalUnits};
 ghost use Rattle.stored_names.specs.StoredNames.{units};
 
 // The unit at a place, zero past the last place.
-fn unit_at(name: &[u16], at: usize) -> u16
+pub fn unit_at(name: &[u16], at: usize) -> u16
     ensures { λ r. ⌜ r ≡ getD (now (name .entry)) at 0 ⌝ }
 {
     if at < name.len() { name[at] } else { 0 }

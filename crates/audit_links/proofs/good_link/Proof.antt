@@ -6,14 +6,14 @@ use Rattle.audit_links.proofs.good_link.Tie as tie
 returns : tie.Need-returns
 returns c =
     let n = c .before in
-    let a = n .before .before .args in
+    let a = n .before .before .before .args in
     rw (link-parts (a .of) (a .above) (a .l), ← n .good-file-name .ensures, not-true (n .good-file-name .result) (c .if1 .taken))
 
 returns-2 : tie.Need-returns-2
 returns-2 c =
     let u = c .before .before in
     let n = u .before .before in
-    let a = n .before .before .args in
+    let a = n .before .before .before .args in
     rw (
       link-parts (a .of) (a .above) (a .l),
       ← n .good-file-name .ensures,
@@ -27,7 +27,7 @@ returns-3 : tie.Need-returns-3
 returns-3 c =
     let u = c .before in
     let n = u .before .before in
-    let a = n .before .before .args in
+    let a = n .before .before .before .args in
     rw (
       link-parts (a .of) (a .above) (a .l),
       ← n .good-file-name .ensures,
@@ -40,6 +40,7 @@ pub good-link-spec : {M : Type 1} → statement M
 good-link-spec =
     tie.close
     (tie.spec
+    (λ c. search needs)
     (λ c κs. search needs)
     returns
     (λ c κs. search needs)

@@ -7,14 +7,14 @@ returns : tie.Need-returns
 unfolding bare
 returns c =
     let n = c .before in
-    let a = n .before .before .args in
+    let a = n .before .before .before .args in
     rw (stream-parts (a .of) (bare (a .s)), ← n .good-stream-name .ensures, not-true (n .good-stream-name .result) (c .if1 .taken))
 
 returns-2 : tie.Need-returns-2
 unfolding bare
 returns-2 c =
     let n = c .before .before .before .before in
-    let a = n .before .before .args in
+    let a = n .before .before .before .args in
     rw (
       stream-parts (a .of) (bare (a .s)),
       ← n .good-stream-name .ensures,
@@ -28,6 +28,7 @@ pub good-stream-spec : {M : Type 1} → statement M
 good-stream-spec =
     tie.close
     (tie.spec
+    (λ c. search needs)
     (λ c κs. search needs)
     returns
     (λ c κs. search needs)
