@@ -54,8 +54,8 @@ ghost use Rattle.paths.specs.Positions.{asLeaf};
 ghost use Rattle.store.specs.Request.{wantsDirectory};
 ghost use Rattle.store.specs.Prepare.{asOffered, grantedNew, newType, attributesNew, admitFile, readSharingOf, admitOpen, hiddenOrSystem, gained, replacing, replacement, admitReplace, admitStream};
 ghost use Rattle.open_steps.specs.Targets.{asTarget};
-ghost use Rattle.open_steps.specs.Pendings.{asReadSharing, asAttributes, asPending};
-ghost use Rattle.admit.specs.Admitted.{admitted};
+ghost use Rattle.open_steps.specs.Pendings.{asReadSharing, asAttributes, asExisting, asPending};
+ghost use Rattle.admit.specs.Admitted.{admitExisting, admitted};
 
 // The access rule on a file, for the request's account.
 fn grant(b: &[u8], r: Request, file: FileNo, access: u32) -> Access
@@ -148,6 +148,31 @@ fn read_sharing(r: Request, f: File) -> SharingRule
     SharingRule::AddedIfAlone
 }
 
+// The access rule on a stream that is there: `e` comes with the terms asked, and goes on with those granted.
+fn admit_existing(b: &[u8], r: Request, e: ExistingOpen) -> PendingOpen
+    requires { ⌜ length (now b) ≡ tablesSize ⌝ }
+    ensures { λ x. ⌜ ((path : List ℕ) → asPending (decode (now (b .entry)) .volume .files) path x ≡ admitExisting (namespace (decode (now (b .entry)) .volume)) r (asExisting e)) ⌝ }
+{
+    let file = e.file;
+    let stream = e.stream;
+    let read_sharing = e.read_sharing;
+    let action = e.action;
+    let attributes = e.attributes;
+    let access = grant(b, r, file, e.granted);
+    match access {
+        Access::Denied => PendingOpen::Refused(Status::AccessDenied),
+        Access::Granted(granted) => PendingOpen::Existing(ExistingOpen {
+            file,
+            stream,
+            granted,
+            share: r.share,
+            read_sharing,
+            action,
+            attributes,
+        }),
+    }
+}
+
 // Steps 10 and 11, open or open-if of what was found.
 fn admit_open(
     b: &[u8],
@@ -159,19 +184,19 @@ fn admit_open(
     requires { ⌜ length (now b) ≡ tablesSize ⌝ }
     ensures { λ x. ⌜ ((path : List ℕ) → asPending (decode (now (b .entry)) .volume .files) path x ≡ admitOpen (namespace (decode (now (b .entry)) .volume)) r file stream (asReadSharing «read_sharing»)) ⌝ }
 {
-    let access = grant(b, r, file, r.access);
-    match access {
-        Access::Denied => PendingOpen::Refused(Status::AccessDenied),
-        Access::Granted(granted) => PendingOpen::Existing(ExistingOpen {
+    admit_existing(
+        b,
+        r,
+        ExistingOpen {
             file,
             stream,
-            granted,
+            granted: r.access,
             share: r.share,
             read_sharing,
             action: CreateAction::Opened,
             attributes: NewAttributes::Kept,
-        }),
-    }
+        },
+    )
 }
 
 // The file is hidden or system, and was not so asked.
@@ -226,19 +251,19 @@ fn admit_replace(b: &[u8], r: Request, file: FileNo, stream: StreamNo, unnamed: 
     if unnamed & hidden_or_system(r, read_file(b, file)) {
         return PendingOpen::Refused(Status::AccessDenied);
     }
-    let access = grant(b, r, file, r.access | gained(r, unnamed));
-    match access {
-        Access::Denied => PendingOpen::Refused(Status::AccessDenied),
-        Access::Granted(granted) => PendingOpen::Existing(ExistingOpen {
+    admit_existing(
+        b,
+        r,
+        ExistingOpen {
             file,
             stream,
-            granted,
+            granted: r.access | gained(r, unnamed),
             share: r.share,
             read_sharing: SharingRule::AsOffered,
             action: replacing(r),
             attributes: replacement(r, unnamed),
-        }),
-    }
+        },
+    )
 }
 
 // Step 11, stream missing: the access rule first, then the volume's mark.
