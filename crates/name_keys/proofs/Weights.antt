@@ -1,8 +1,8 @@
 -- The weights of a name's units: a place more, and none for the zeros after a well stored name.
-use Rattle.base.{specs.Base.{ℕ, zero, suc, _+_, _*_, _-_, _≤_, _<_, _≡_, Bool, true, false, cond, List, [], _∷_, _++_, length, getD, drop, replicate, padded, fileNameLimit}, proofs.Laws.{refl, _∙_, ap, arith, List·getD-eq-default, drop-next, drop-of-length-le, same-is}}
+use Rattle.base.{specs.Base.{ℕ, zero, suc, _+_, _*_, _-_, _≤_, _<_, _≡_, Bool, true, false, cond, List, [], _∷_, _++_, length, getD, drop, replicate, padded, fileNameLimit}, proofs.Laws.{refl, _∙_, ap, arith, eq-eqb, drop-next, drop-of-length-le, same-is}}
 use native.Mathlib.Nat.{mul-le-mul}
 use Rattle.stored_names.specs.StoredNames.{units, wellStored}
-use Rattle.name_keys.specs.NameKeys.{lowWeights, highWeights, weighed, weighedFrom, nameKey}
+use Rattle.name_keys.specs.NameKeys.{lowWeights, highWeights, weighed, weighedFrom, nameKey, storedKey}
 
 -- the key of a slot: a free one has none
 unfoldable pub slotKey : Bool → ℕ → List ℕ → ℕ
@@ -21,18 +21,6 @@ module _ (n : List ℕ) (i : ℕ) where
   pub weighed-end : length n ≤ i → weighedFrom i (drop i n) ≡ 0
   unfolding weighedFrom
   weighed-end h = rw (drop-of-length-le n h)
-
--- the places past the weights add nothing
-no-weight : (i : ℕ) → fileNameLimit ≤ i → (getD lowWeights i 0 ≡ 0) × (getD highWeights i 0 ≡ 0)
-unfolding lowWeights highWeights
-no-weight i h = (List·getD-eq-default lowWeights 0 {n = i} (omega arith), List·getD-eq-default highWeights 0 {n = i} (omega arith))
-
-pub weighed-past : (i : ℕ) (us : List ℕ) → fileNameLimit ≤ i → weighedFrom i us ≡ 0
-unfolding weighedFrom weighed
-weighed-past i [] h = refl
-weighed-past i (u ∷ us) h =
-    let w = no-weight i h in
-    rw (weighedFrom, w .0, w .1, weighed-past (i + 1) us (omega arith)) (omega arith)
 
 -- a zero adds nothing
 zero-weighed : (low high : ℕ) → weighed 0 low high ≡ 0
@@ -57,9 +45,10 @@ weighed-stored limit n h =
     ap (weighedFrom 0) (same-is n (padded limit (units n)) h) ∙ weighed-padded 0 (units n) (limit - length (units n))
 
 module _ {used : Bool} where
-  pub key-used : (limit : ℕ) → used ≡ true → (number : ℕ) (n : List ℕ) → wellStored limit n ≡ true → nameKey number n ≡ slotKey used number (units n)
-  unfolding slotKey nameKey
-  key-used limit u number n h = rw (u, weighed-stored limit n h)
+  pub key-used : (limit : ℕ) → used ≡ true → (number : ℕ) (n : List ℕ) → length n ≡ fileNameLimit → wellStored limit n ≡ true
+      → storedKey number n ≡ slotKey used number (units n)
+  unfolding slotKey nameKey storedKey
+  key-used limit u number n long h = rw (u, eq-eqb (length n) fileNameLimit long, weighed-stored limit n h)
 
   -- and a free slot none
   pub key-free : used ≡ false → (number : ℕ) (us : List ℕ) → 0 ≡ slotKey used number us

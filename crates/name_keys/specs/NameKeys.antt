@@ -1,5 +1,5 @@
 -- The key of a name in a place. No rule depends on it: it only tells names apart quickly.
-use Rattle.base.specs.Base.{ℕ, _+_, _*_, List, [], _∷_, getD}
+use Rattle.base.specs.Base.{ℕ, _+_, _*_, cond, List, [], _∷_, eqb, length, getD, fileNameLimit}
 use Prim.Native.Nat.{_/_, _%_}
 
 -- the weights of a unit's low byte and of its high one, by place
@@ -30,3 +30,7 @@ weighedFrom i (u ∷ us) = weighed u (getD lowWeights i 0) (getD highWeights i 0
 -- 0 is no key
 unfoldable pub nameKey : ℕ → List ℕ → ℕ
 nameKey number us = number * 0x100000000 + weighedFrom 0 us + 1
+
+-- of a name as a record has it; no other list has one
+unfoldable pub storedKey : ℕ → List ℕ → ℕ
+storedKey number n = cond (eqb (length n) fileNameLimit) (nameKey number n) 0

@@ -3,7 +3,7 @@
 use records::sizes::FILE_NAME_LIMIT;
 ghost use mathlib.Core.Path.{_≡_};
 ghost use Prim.Native.Nat.{_≤_};
-ghost use Rattle.name_keys.specs.NameKeys.{weighed, nameKey};
+ghost use Rattle.name_keys.specs.NameKeys.{weighed, storedKey};
 
 // The weights of the units' bytes, by place: odd numbers of 15 bits, without any order.
 const LOW: [u16; FILE_NAME_LIMIT] = [
@@ -83,21 +83,19 @@ fn weigh(unit: u16, low: u16, high: u16) -> u32
     (unit % 256) as u32 * low as u32 + (unit / 256) as u32 * high as u32
 }
 
-// The key of a name, by all its places that have a weight. A zero adds nothing, so that the places after the last unit do
-// not count.
+// The key of a stored name, by all its places; a list of another length has none. A zero adds nothing, so that the places
+// after the last unit do not count.
 pub fn name_key(number: u16, name: &[u16]) -> u64
-    ensures { λ r. ⌜ r ≡ nameKey number (now (name .entry)) ⌝ }
+    ensures { λ r. ⌜ r ≡ storedKey number (now (name .entry)) ⌝ }
 {
-    let end = if name.len() < FILE_NAME_LIMIT {
-        name.len()
-    } else {
-        FILE_NAME_LIMIT
-    };
+    if name.len() != FILE_NAME_LIMIT {
+        return 0;
+    }
     let low = LOW;
     let high = HIGH;
     let mut sum: u32 = 0;
     let mut i: usize = 0;
-    while i < end {
+    while i < name.len() {
         sum = sum + weigh(name[i], low[i], high[i]);
         i += 1;
     }

@@ -61,7 +61,7 @@ module _ (c : tie.Joined2 Inv-loop μ-loop) where
       ⊎-elim
       (λ w.
       let u = sym is-used ∙ w .0 .taken in
-      w .3 ∙ w .2 .ensures ∙ key-used fileNameLimit u (l .parent .0) (l .name) (name-stored (state seen .volume .files) l u passes))
+      w .3 ∙ w .2 .ensures ∙ key-used fileNameLimit u (l .parent .0) (l .name) (search needs) (name-stored (state seen .volume .files) l u passes))
       (λ w. w .1 ∙ key-free (sym is-used ∙ w .0 .left) (l .parent .0) (units (l .name)))
       (c .if2 .came)
 

@@ -57,7 +57,7 @@ module _ (c : tie.Joined2 Inv-loop μ-loop) where
       ⊎-elim
       (λ w.
       let u = sym is-used ∙ w .0 .taken in
-      w .3 ∙ w .2 .ensures ∙ key-used streamNameLimit u (stream .file .0) (stream .name) (name-stored files (bare stream) u passes))
+      w .3 ∙ w .2 .ensures ∙ key-used streamNameLimit u (stream .file .0) (stream .name) (search needs) (name-stored files (bare stream) u passes))
       (λ w. w .1 ∙ key-free (sym is-used ∙ w .0 .left) (stream .file .0) (units (stream .name)))
       (c .if2 .came)
 
