@@ -18,6 +18,7 @@ use records::Link;
 use records::Open;
 use records::Stream;
 use records::StreamNo;
+use records::sizes::LAST_HANDLE;
 use records_files::read_file;
 use records_files::write_file;
 use records_links::write_link;
@@ -50,7 +51,7 @@ ghost use Rattle.apply.specs.Applied.{raised, Writes, StreamNames, Store
 fn raised(h: Handle) -> Handle
     ensures { λ r. ⌜ r .0 ≡ raised (h .0) ⌝ }
 {
-    if h.0 < 0xFFFF_FFFF_FFFF_FFFF {
+    if h.0 < LAST_HANDLE {
         Handle(h.0 + 1)
     } else {
         h

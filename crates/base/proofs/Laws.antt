@@ -12,7 +12,7 @@ pub use native.Mathlib.Decide.{ℕ-discrete}
 pub use Rattle.lists.proofs.Tests.{none≢some, by-cases, not-both, refuted, not-is, not-isn't, fails-iff, not-iff, and-left, and-right, and-both, and-iff, excluded, excludes, exclude-iff, and-swap, and-exchange, or-cases, or-left, or-right, or-neither, guarded, guard, guard-iff, beq-iff, cond-true, cond-false, one, eqb-iff, leb-iff}
 pub use Rattle.lists.proofs.Places.{getD-default, drop-next, drop-back}
 pub use Rattle.lists.proofs.Same.{same-is, same-self, same-iff, empty-is, empty-length, same-tail, same-differs, same-next, same-stops, same-end, same-lengths, same-append}
-pub use Rattle.lists.proofs.All.{all-at, all-of, all-slots, all-fails, all-next, all-end, all-map, numbered-at, numbered-of, numbered-stops, numbered-next, numbered-end, numbered-same}
+pub use Rattle.lists.proofs.All.{all-at, all-of, all-slots, all-fails, all-next, all-end, all-gathered, all-gathered-end, all-map, numbered-at, numbered-of, numbered-stops, numbered-next, numbered-end, numbered-same}
 pub use Rattle.lists.proofs.Any.{any-at, any-of, any-fails, none-of, any-here, any-next, any-none, any-or, any-and, any-same, none-too}
 pub use Rattle.lists.proofs.Count.{count-yes, count-no, count-add, count-bound, count-some, any-count, count-none, count-fewer, count-short}
 pub use Rattle.lists.proofs.Keep.{keep-yes, keep-no, kept-here, kept-past, all-kept-fails, all-kept-next, all-kept-past, kept-end, all-kept-end, all-keep, any-keep, count-keep, none-kept-at, none-kept-of, length-keep, keep-none, keep-others, keep-append, keep-map}

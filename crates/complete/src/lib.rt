@@ -24,6 +24,7 @@ use records::Handle;
 use records::Status;
 use records::StreamNo;
 use records::constants::SHARE_READ;
+use records::sizes::LAST_HANDLE;
 use records_streams::read_counts;
 use records_volume::read_next;
 use sharing::share_check;
@@ -45,9 +46,6 @@ ghost use Rattle.store.specs.Store.{storeView};
 ghost use Rattle.open_steps.specs.Pendings.{termsOver, asReadSharing, asExisting, asFile, asPending};
 ghost use Rattle.open_steps.specs.Decisions.{asPlaced};
 ghost use Rattle.complete.specs.Placing.{PlacesOpen, asTerms, openedSlot, fileSlots, asFilePlace, finished, Decides, completed};
-
-// The last value of the next handle, at which no open is accepted any more.
-const LAST_HANDLE: u64 = 0xFFFF_FFFF_FFFF_FFFF;
 
 // The open's row and handle, or that it has none.
 enum OpenPlace {

@@ -1,7 +1,7 @@
 -- Every element passes.
 use Prim.Native.Nat.{ℕ, zero, suc, _+_, _≤_, _<_}
 use lib.{ListN.{length, getD, drop, drop-of-length-le}, Seq.drop-cons}
-use mathlib.Core.{Path.{_≡_, refl, sym, _∙_, ap, ap₂}, Bool.{Bool, true, false, not, _&&_}, List.{List, [], _∷_, map}}
+use mathlib.Core.{Path.{_≡_, refl, sym, _∙_, ap, ap₂}, Bool.{Bool, true, false, not, _&&_, and-assoc, and-true}, List.{List, [], _∷_, map}}
 use native.Mathlib.{Numerals.add-one, Omega.arith}
 use Rattle.lists.proofs.{Tests.{by-cases, not-both, not-is, and-left, and-right, and-both}, Places.{used-below, drop-next}}
 use Rattle.lists.specs.Lists.{all, allFrom}
@@ -38,6 +38,18 @@ module _ {A : Type 0} (p : A → Bool) (xs : List A) (i : ℕ) where
   pub all-end : length xs ≤ i → all p (drop i xs) ≡ true
   unfolding all
   all-end h = rw (drop-of-length-le xs h)
+
+  -- for a pass without a branch: what was found of the places before, and the places from here on
+  module _ (sofar : Bool) {whole : Bool} (inv : whole ≡ (sofar && all p (drop i xs))) where
+    pub all-gathered : (d : A) → i < length xs → {test : Bool} → test ≡ p (getD xs i d) → whole ≡ ((sofar && test) && all p (drop (i + 1) xs))
+    unfolding all
+    all-gathered d h {test} e =
+        inv
+        ∙ ap (λ (b : Bool). sofar && b) (ap (all p) (drop-next xs i d h) ∙ ap (λ (b : Bool). b && all p (drop (i + 1) xs)) (sym e))
+        ∙ sym (and-assoc sofar test (all p (drop (i + 1) xs)))
+
+    pub all-gathered-end : length xs ≤ i → sofar ≡ whole
+    all-gathered-end h = sym (inv ∙ ap (λ (b : Bool). sofar && b) (all-end h) ∙ and-true sofar)
 
 -- a list made from another
 pub all-map : {A B : Type 0} (f : A → B) (p : B → Bool) (xs : List A) → all p (map f xs) ≡ all (λ x. p (f x)) xs

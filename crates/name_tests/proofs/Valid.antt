@@ -9,11 +9,6 @@ use Rattle.names.{specs.Names.{validUnit, validFileName, validStreamName}, proo
 use Rattle.stored_names.{specs.StoredNames.{units, wellStored}, proofs.{NameUnits.{units-end, units-next, units-none}, StoredUnits.{isZero, well-stored, units-fit, zeros-stored}}}
 use Rattle.name_tests.specs.NameTests.{goodFileName, goodStreamName, fitsStored, zeroOrValid}
 
--- one place more
-pub places-next : (n : List ℕ) (i : ℕ) → i < length n → all zeroOrValid (drop i n) ≡ (zeroOrValid (getD n i 0) && all zeroOrValid (drop (i + 1) n))
-unfolding all
-places-next n i h = rw (drop-next n i 0 h)
-
 zeros-pass : (us : List ℕ) → all isZero us ≡ true → all zeroOrValid us ≡ true
 unfolding all
 zeros-pass [] h = refl

@@ -15,3 +15,6 @@ pub const STREAM_NAME_LIMIT: usize = 32;
 pub const PATH_LIMIT: usize = 255;
 
 pub const ACCOUNTS: usize = 8;
+
+// the last value of the next handle, at which no open is accepted any more
+pub const LAST_HANDLE: u64 = 0xFFFF_FFFF_FFFF_FFFF;

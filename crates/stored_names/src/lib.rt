@@ -63,16 +63,15 @@ pub fn same_names(a: &[u16], b: &[u16]) -> bool
     unit_at(b, i) == 0
 }
 
-// Whether a stored name is all zero.
+// Whether a stored name is all zero. Every place is looked at, without a branch: many at once.
 pub fn zero_name(name: &[u16]) -> bool
     ensures { λ r. ⌜ r ≡ same (now (name .entry)) (replicate (length (now (name .entry))) 0) ⌝ }
 {
+    let mut zeros = true;
     let mut i = 0;
     while i < name.len() {
-        if name[i] != 0 {
-            return false;
-        }
+        zeros = zeros & (name[i] == 0);
         i += 1;
     }
-    true
+    zeros
 }

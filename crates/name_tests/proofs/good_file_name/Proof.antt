@@ -23,7 +23,7 @@ returns-4 c =
     (good-file-other (s .before .before .args .name .now) (s .if1 .left) (d .before .if2 .left) (sym (d .is-dots .ensures) ∙ w .before .if3 .left))
 
 pub good-file-name-spec : {M : Type 1} → statement M
-good-file-name-spec = 
+good-file-name-spec =
     tie.close
     (tie.spec
     returns

@@ -18,7 +18,7 @@ returns-3 c =
     c .zero-name .ensures ∙ good-stream-empty (s .before .before .args .name .now) (s .if1 .left) (c .before .if2 .left)
 
 pub good-stream-name-spec : {M : Type 1} → statement M
-good-stream-name-spec = 
+good-stream-name-spec =
     tie.close
     (tie.spec
     returns

@@ -1,30 +1,23 @@
--- `stored_names::zero_name` meets its contract. The loop's invariant: the answer is whether all places left are zero.
-use Rattle.base.{specs.Base.{_-_, _≡_, length, drop, replicate, all, same}, proofs.Laws.{sym, _∙_, arith, needs, eq-eqb, ne-eqb, all-fails, all-next, all-end}}
+-- `stored_names::zero_name` meets its contract. The loop's invariant: the answer so far, and that for the places left.
+use Rattle.base.{specs.Base.{_-_, _≡_, _&&_, length, drop, replicate, all, same}, proofs.Laws.{refl, arith, needs, all-gathered, all-gathered-end}}
 use Rattle.stored_names.proofs.{StoredUnits.{isZero, zeros}, zero_name.Statement.statement}
 use Rattle.stored_names.proofs.zero_name.Tie as tie
 
 abbrev Inv-loop : tie.InvT-loop
-Inv-loop name i₀ i = same name (replicate (length name) 0) ≡ all isZero (drop i name)
+Inv-loop name zeros₀ i₀ sofar i = same name (replicate (length name) 0) ≡ (sofar && all isZero (drop i name))
 
 abbrev μ-loop : tie.MeasureT-loop
-μ-loop name i₀ i = length name - i
-
-returns : tie.Need-returns Inv-loop μ-loop
-returns c =
-    let l = c .before .before .before in
-    let n = l .before .args .name .now in
-    sym (l .loop .inv ∙ all-fails isZero n (l .loop .i) 0 (omega arith) (ne-eqb _ 0 (c .if1 .taken)))
+μ-loop name zeros₀ i₀ sofar i = length name - i
 
 loop-again : tie.Need-loop-again Inv-loop μ-loop
 loop-again c =
-    let l = c .before .before .before in
-    let n = l .before .args .name .now in
-    l .loop .inv ∙ all-next isZero n (l .loop .i) 0 (omega arith) (eq-eqb _ 0 (c .if1 .left))
+    let l = c .before .before in
+    all-gathered isZero (l .before .args .name .now) (l .loop .i) (l .loop .zeros) (l .loop .inv) 0 (omega arith) refl
 
-returns-2 : tie.Need-returns-2 Inv-loop μ-loop
-returns-2 c =
+returns : tie.Need-returns Inv-loop μ-loop
+returns c =
     let l = c .before in
-    sym (l .loop .inv ∙ all-end isZero (l .before .args .name .now) (l .loop .i) (c .loop-test .left))
+    all-gathered-end isZero (l .before .args .name .now) (l .loop .i) (l .loop .zeros) (l .loop .inv) (omega arith)
 
 pub zero-name-spec : {M : Type 1} → statement M
 zero-name-spec =
@@ -35,8 +28,7 @@ zero-name-spec =
     (λ c. zeros (c .args .name .now))
     (λ c. search needs)
     (λ c. search needs)
-    returns
     (λ c. search needs)
     (λ c. search needs)
     loop-again
-    returns-2)
+    returns)
