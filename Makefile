@@ -42,8 +42,8 @@ run:
 	@rt check script > target/run.log 2>&1 || { tail -n 20 target/run.log; exit 1; }
 	@target/bin/script < "$(IN)" | paste - "$(IN)"
 
-# rt ci comes last: it removes target/, and its verdict is the last line
-test: all
+# what takes seconds first; rt ci last: it removes target/, and its verdict is the last line
+test:
 	@tools/check-trace
 	@tests/check-constants
 	@$(MAKE) -s test-c
