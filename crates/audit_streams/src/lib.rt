@@ -9,7 +9,6 @@ use records::FileType;
 use records::Stream;
 use records::StreamNo;
 use records::sizes::FILE_SLOTS;
-use records::sizes::STREAM_NAME_LIMIT;
 use records::sizes::STREAM_SLOTS;
 use records::slots::is_directory;
 use records::slots::is_used;
@@ -18,6 +17,7 @@ use records_files::read_file_type;
 use records_streams::read_stream;
 use records_streams::read_stream_file;
 use stored_names::same_names;
+use stored_names::unit_at;
 use stored_names::zero_name;
 ghost use mathlib.Core.Path.{_≡_};
 ghost use mathlib.Core.Bool.{cond};
@@ -112,10 +112,10 @@ fn names_differ(b: &[u8]) -> bool
 }
 
 // 1 for the empty name, else 0.
-fn one_if_unnamed(name: &[u16; STREAM_NAME_LIMIT]) -> u16
+fn one_if_unnamed(name: &[u16]) -> u16
     ensures { λ r. ⌜ r ≡ cond (isEmpty (units (now (name .entry)))) 1 0 ⌝ }
 {
-    if name[0] == 0 { 1 } else { 0 }
+    if unit_at(name, 0) == 0 { 1 } else { 0 }
 }
 
 // A used file has one stream with the empty name, and as a directory no other.

@@ -5,10 +5,14 @@ use Rattle.audit_streams.proofs.one_if_unnamed.Statement.{statement}
 use Rattle.audit_streams.proofs.one_if_unnamed.Tie as tie
 
 returns : tie.Need-returns
-returns c = rw (units-empty (c .before .before .args .name .now), eq-eqb _ _ (c .if1 .taken))
+returns c =
+    let u = c .before in
+    rw (units-empty (u .before .before .args .name .now), ← u .unit-at .ensures, eq-eqb _ _ (c .if1 .taken))
 
 returns-2 : tie.Need-returns-2
-returns-2 c = rw (units-empty (c .before .before .args .name .now), ne-eqb _ _ (c .if1 .left))
+returns-2 c =
+    let u = c .before in
+    rw (units-empty (u .before .before .args .name .now), ← u .unit-at .ensures, ne-eqb _ _ (c .if1 .left))
 
 pub one-if-unnamed-spec : {M : Type 1} → statement M
-one-if-unnamed-spec = tie.close (tie.spec (λ c. search needs) returns returns-2)
+one-if-unnamed-spec = tie.close (tie.spec (λ c κs. search needs) returns returns-2)

@@ -148,6 +148,7 @@ streams-consistent-spec =
     (λ c. search needs)
     (λ c. search needs)
     (λ c. search needs)
+    (λ c. search needs)
     (λ c κs. search needs)
     add-unnamed
     (λ c. search needs)
