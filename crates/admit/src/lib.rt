@@ -52,10 +52,10 @@ ghost use Rattle.tables.specs.Tables.{fileAt};
 ghost use Rattle.access.specs.Access.{accessRule};
 ghost use Rattle.paths.specs.Positions.{asLeaf};
 ghost use Rattle.store.specs.Request.{wantsDirectory};
-ghost use Rattle.store.specs.Prepare.{asOffered, grantedNew, newType, attributesNew, admitFile, readSharingOf, admitOpen, hiddenOrSystem, gained, replacing, replacement, admitReplace, admitStream};
+ghost use Rattle.store.specs.Prepare.{asOffered, grantedNew, newType, attributesNew, admitFile, readSharingOf, admitExisting, admitOpen, hiddenOrSystem, gained, replacing, replacement, admitReplace, admitStream};
 ghost use Rattle.open_steps.specs.Targets.{asTarget};
 ghost use Rattle.open_steps.specs.Pendings.{asReadSharing, asAttributes, asExisting, asPending};
-ghost use Rattle.admit.specs.Admitted.{admitExisting, admitted};
+ghost use Rattle.admit.specs.Admitted.{admitted};
 
 // The access rule on a file, for the request's account.
 fn grant(b: &[u8], r: Request, file: FileNo, access: u32) -> Access

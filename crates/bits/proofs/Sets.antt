@@ -1,7 +1,7 @@
 -- Numbers as sets of bits: how the tests of a set answer to intersection, union and difference.
 use Prim.Native.Nat.{ℕ, zero, suc, _-_, _/_, _%_, _≤_, min, max}
 use borrow.Author.Tests.{eqb-true, eq-eqb, ne-eqb, not-false}
-use lib.{Arith.bin-ind, Bits.{bitAnd, bitOr, and-step, or-step, and-shr, or-shr, and-comm, or-comm, and-self, and-zero-r, or-zero-r, and-le-l, and-le-r, or-add-and, or-disjoint}, Dec.eqb}
+use lib.{Arith.bin-ind, Bits.{bitAnd, bitOr, and-step, or-step, and-shr, or-shr, and-comm, and-self, and-zero-r, or-zero-r, and-le-l, and-le-r, or-add-and, or-disjoint}, Dec.eqb}
 use mathlib.Core.{Path.{_≡_, refl, sym, _∙_, ap, ap₂}, Bool.{true, false, not, _||_}, Logic.{_↔_, _≢_}}
 use native.Mathlib.Omega.{arith}
 use Rattle.bits.specs.Bits.{within, has, without}
@@ -127,12 +127,9 @@ pub within-or : (a b m : ℕ) → within a m ≡ true → within b m ≡ true �
 within-or a b m h k =
     within-iff (bitOr a b) m .1 (and-or a b m ∙ ap₂ bitOr (within-iff a m .0 h) (within-iff b m .0 k))
 
--- each of two sets is within their union
+-- a set is within its union with another
 pub within-or-l : (a b : ℕ) → within a (bitOr a b) ≡ true
 within-or-l a b = within-iff a (bitOr a b) .1 (and-or-l a a b ∙ ap (λ (x : ℕ). bitOr x (bitAnd a b)) (and-self a) ∙ or-and a b)
-
-pub within-or-r : (a b : ℕ) → within b (bitOr a b) ≡ true
-within-or-r a b = ap (within b) (or-comm a b) ∙ within-or-l b a
 
 pub within-split : (a m k : ℕ) → within a (bitOr m k) ≡ true → has a k ≡ false → within a m ≡ true
 within-split a m k h e =
@@ -141,9 +138,6 @@ within-split a m k h e =
     ∙ sym (and-or-l a m k) ∙ within-iff a (bitOr m k) .0 h)
 
 -- ---- a bit in common
-
-pub has-zero : (m : ℕ) → has 0 m ≡ false
-has-zero m = has-iff-false 0 m .1 refl
 
 some-or : (x y : ℕ) → not (eqb (bitOr x y) 0) ≡ (not (eqb x 0) || not (eqb y 0))
 some-or zero y = refl
@@ -159,10 +153,6 @@ has-and-none a b m e =
 
 pub has-subset : (a b m : ℕ) → within a b ≡ true → has b m ≡ false → has a m ≡ false
 has-subset a b m h e = ap (λ (x : ℕ). has x m) (sym (within-iff a b .0 h)) ∙ has-and-none a b m e
-
--- a set with no bit of a mask has none of a smaller one
-pub has-smaller : (a m k : ℕ) → within m k ≡ true → has a k ≡ false → has a m ≡ false
-has-smaller a m k h e = has-comm a m ∙ has-subset m k a h (has-comm k a ∙ e)
 
 -- ---- a difference
 

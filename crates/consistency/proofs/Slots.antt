@@ -1,6 +1,6 @@
 -- The laws of a table's slots: a test decides them; when one is set, and when other things are asked of a used one, they
 -- stay as they should be; under a map.
-use Rattle.base.{specs.Base.{ℕ, _<_, _≡_, Bool, true, false, List, _↔_, _⊎_, inl, inr, getD, set, keep, pairs, map}, proofs.Laws.{refl, sym, _∙_, arith, length-set, by-cases, cond-true, cond-false, not-both, and-iff, eqb-iff, all-of, all-slots, pairs-keep-at, pairs-keep-of, set-each, set-pairs, List·getD-map, length-map, ap, subst}}
+use Rattle.base.{specs.Base.{ℕ, _≡_, Bool, true, false, List, _↔_, getD, set, keep, pairs, map}, proofs.Laws.{refl, sym, _∙_, length-set, by-cases, cond-true, cond-false, not-both, and-iff, eqb-iff, all-of, all-slots, pairs-keep-at, pairs-keep-of, set-each, set-pairs, List·getD-map, length-map, ap, subst}}
 use Rattle.lists.proofs.Places.{used-below}
 use Rattle.consistency.specs.Slots.{Slots, EveryTwo, slotTest, slotsTest}
 
@@ -17,9 +17,6 @@ module _ {A : Type 0} {used good isZero : A → Bool} {zero : A} {Good : A → T
 
   slot-zero : (x : A) → used x ≡ false → slotTest used good isZero x ≡ true → x ≡ zero
   slot-zero x u h = d .decidesZero x u .0 (sym (cond-false (good x) (isZero x) u) ∙ h)
-
-  pub slot-passes : (x : A) → slotTest used good isZero x ≡ true → Good x ⊎ (x ≡ zero)
-  slot-passes x h = by-cases (used x) (λ u. inl (slot-good x u h)) (λ u. inr (slot-zero x u h))
 
   slot-of : (x : A) → (used x ≡ true → Good x) → (used x ≡ false → x ≡ zero) → slotTest used good isZero x ≡ true
   slot-of x g z =
@@ -57,10 +54,6 @@ module _ {A : Type 0} {used : A → Bool} {zero : A} {Good : A → Type 0} {n : 
         freeZero = set-each zero (λ x. used x ≡ false → x ≡ zero) xs i y z (s .freeZero);
         usedGood = set-each zero (λ x. used x ≡ true → Good x) xs i y g (s .usedGood);
       }
-
-  -- a used slot is below the table's size
-  pub slots-below : used zero ≡ false → (i : ℕ) → used (getD xs i zero) ≡ true → i < n
-  slots-below free i u = omega (arith, used-below used zero free xs i u, s .size)
 
 -- under a map: slots that are so by what is read of them are so themselves, if one that reads as zero is zero
 module _ {A B : Type 0} (f : A → B) {used : B → Bool} (zero : A) {Good : B → Type 0} {n : ℕ} (xs : List A) where

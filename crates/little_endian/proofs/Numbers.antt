@@ -10,9 +10,6 @@ use Rattle.little_endian.specs.{LittleEndian.{fromBytes, toBytes, part, 
 pub rejoined : (x : ℕ) → x % 256 + 256 * (x / 256) ≡ x
 rejoined x = mod-add-div x 256
 
-pub byte-lt : (x : ℕ) → x % 256 < 256
-byte-lt x = mod-lt x (omega arith)
-
 -- the rest of a number of a byte more fits
 pub rest-lt : (w x : ℕ) → x < 256 ^ suc w → x / 256 < 256 ^ w
 rest-lt w x h = div-lt-iff-lt-mul {k = 256} {x = x} {y = 256 ^ w} (omega arith) .1 (rw pow-suc at h)

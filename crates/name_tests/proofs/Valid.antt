@@ -1,5 +1,5 @@
 -- The places of a well stored name: each is zero or valid exactly where the units are. And the dots.
-use Rattle.base.{specs.Base.{ℕ, zero, suc, _+_, _-_, _<_, _≡_, Bool, true, false, _&&_, List, [], _∷_, eqb, leb, length, getD, drop, all, same, isEmpty, replicate, padded, fileNameLimit, streamNameLimit}, proofs.Laws.{refl, sym, _∙_, ap, arith, by-cases, and-left, and-right, le-leb, same-is, eqb-true, eqb-false, ne-eqb, drop-next}}
+use Rattle.base.{specs.Base.{ℕ, zero, suc, _-_, _<_, _≡_, Bool, true, false, _&&_, List, [], _∷_, eqb, leb, length, getD, drop, all, same, isEmpty, replicate, padded, fileNameLimit, streamNameLimit}, proofs.Laws.{refl, sym, _∙_, ap, arith, by-cases, and-left, and-right, le-leb, same-is, eqb-true, eqb-false, ne-eqb}}
 use lib.Dec.{eqb·suc-zero}
 use borrow.Author.Tests.{leb-true, leb-false}
 use lib.ListN.{length-append, length-replicate}

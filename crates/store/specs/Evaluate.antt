@@ -17,13 +17,13 @@ use Rattle.stored_names.specs.Evaluate.{computes as storedNames}
 use Rattle.stream_lookup.specs.Evaluate.{computes as streamLookup}
 use Rattle.tables.specs.Evaluate.{computes as tables}
 use Rattle.units.specs.Evaluate.{computes as units}
-use Rattle.store.specs.{Request.{wantsDirectory, wantsFile, badParameters, badAccess, wantsBoth, writesVolume}, Target.{targetNew, wrongType, targetDirectory, targetData, targetFound, targetAt, target}, Prepare.{grant, grantedNew, newType, attributesNew, fileNew, admitFile, readSharingOf, admitOpen, hiddenOrSystem, gained, replacing, replacement, admitReplace, admitStream, admit, prepare}, Complete.{changed, withShareRead, shareOf, withAttributes, streamNew, linkNew, placeFile, placeStreams, place, nextHandle, attributeChange, placeExisting, complete, decide, decideClose}, Store.{hasHandle, storeView, writeStreams, changedVolume, recount, stored, rowsWithOpen, volumeWithOpen, opened, rowsWithoutOpen, volumeWithoutOpen, closed, volumeMarked, whenConsistent, storeOpen, storeClose, storeSetReadOnly}, Model.{Model, freshModel, modelFormat, modelView, modelOpened, modelOpen, modelClosed, modelClose, namespaceMarked, modelSetReadOnly}, Calls.{Call, Run, storeStep, modelStep, run}}
+use Rattle.store.specs.{Request.{wantsDirectory, wantsFile, badParameters, badAccess, wantsBoth, writesVolume}, Target.{targetNew, wrongType, targetDirectory, targetData, targetFound, targetAt, target}, Prepare.{grant, grantedNew, newType, attributesNew, fileNew, admitFile, readSharingOf, admitExisting, admitOpen, hiddenOrSystem, gained, replacing, replacement, admitReplace, admitStream, admit, prepare}, Complete.{changed, withShareRead, shareOf, withAttributes, streamNew, linkNew, placeFile, placeStreams, place, nextHandle, attributeChange, placeExisting, complete, decide, decideClose}, Store.{hasHandle, storeView, writeStreams, changedVolume, recount, stored, rowsWithOpen, volumeWithOpen, opened, rowsWithoutOpen, volumeWithoutOpen, closed, volumeMarked, whenConsistent, storeOpen, storeClose, storeSetReadOnly}, Model.{Model, freshModel, modelFormat, modelView, modelOpened, modelOpen, modelClosed, modelClose, namespaceMarked, modelSetReadOnly}, Calls.{Call, Run, storeStep, modelStep, run}}
 
 unfoldable pub computes : Unit {0}
 unfolding bits lists records tables openTable freeSlots units names storedNames components paths lookup streamLookup
     access sharing consistency format wantsDirectory wantsFile badParameters badAccess wantsBoth writesVolume
     targetNew wrongType targetDirectory targetData targetFound targetAt target grant grantedNew newType
-    attributesNew fileNew admitFile readSharingOf admitOpen hiddenOrSystem gained replacing replacement admitReplace
+    attributesNew fileNew admitFile readSharingOf admitExisting admitOpen hiddenOrSystem gained replacing replacement admitReplace
     admitStream admit prepare changed withShareRead shareOf withAttributes streamNew linkNew placeFile placeStreams
     place nextHandle attributeChange placeExisting complete decide decideClose hasHandle storeView writeStreams
     changedVolume recount stored rowsWithOpen volumeWithOpen opened rowsWithoutOpen volumeWithoutOpen closed

@@ -68,20 +68,33 @@ readSharingOf r f =
     cond (has (r .share) shareRead || within fileGenericWrite (maskOf f (r .account))) asOffered
     (cond (has (r .options) disallowExclusive) deniedIfAlone addedIfAlone)
 
--- steps 10 and 11, open or open-if of what was found
-unfoldable pub admitOpen : Namespace → Request → FileNo → StreamNo → ReadSharing → Checked Pending
-admitOpen ns r f s readSharing = do
-  terms ← grant ns r f (r .access)
+-- an open of a stream that is there comes with the terms asked, and goes on with those that the access rule grants
+unfoldable pub admitExisting : Namespace → Request → Existing → Checked Pending
+admitExisting ns r e = do
+  terms ← grant ns r (e .file) (e .terms .granted)
   passed
       (existing
       (record {
-        file = f;
-        stream = s;
+        file = e .file;
+        stream = e .stream;
         terms = terms;
-        readSharing = readSharing;
-        action = Opened;
-        attributes = none;
+        readSharing = e .readSharing;
+        action = e .action;
+        attributes = e .attributes;
       }))
+
+-- steps 10 and 11, open or open-if of what was found
+unfoldable pub admitOpen : Namespace → Request → FileNo → StreamNo → ReadSharing → Checked Pending
+admitOpen ns r f s readSharing =
+    admitExisting ns r
+    (record {
+      file = f;
+      stream = s;
+      terms = record { granted = r .access; share = r .share };
+      readSharing = readSharing;
+      action = Opened;
+      attributes = none;
+    })
 
 -- step 11, stream found, supersede, overwrite or overwrite-if. The file's attributes are looked at as they were; the
 -- access gains its bits before the access rule
@@ -102,17 +115,15 @@ replacement r unnamed = cond unnamed (some (without (bitOr (r .attributes) archi
 unfoldable pub admitReplace : Namespace → Request → FileNo → StreamNo → Bool → Checked Pending
 admitReplace ns r f s unnamed = do
   refuseIf (unnamed && hiddenOrSystem r (fileAt (ns .files) f)) AccessDenied
-  terms ← grant ns r f (bitOr (r .access) (gained r unnamed))
-  passed
-      (existing
+  admitExisting ns r
       (record {
         file = f;
         stream = s;
-        terms = terms;
+        terms = record { granted = bitOr (r .access) (gained r unnamed); share = r .share };
         readSharing = asOffered;
         action = replacing r;
         attributes = replacement r unnamed;
-      }))
+      })
 
 -- step 11, stream missing
 unfoldable pub admitStream : Namespace → Request → FileNo → Leaf → Checked Pending

@@ -1,6 +1,6 @@
 -- A stored name's units: they are a part of it, there are none exactly where the first place is zero, and the places after
 -- them are zero exactly where the name is well stored.
-use Rattle.base.{specs.Base.{ℕ, zero, suc, _-_, _≤_, _<_, _≡_, Bool, false, _&&_, List, [], _∷_, _++_, eqb, length, getD, drop, replicate, all, same, isEmpty, padded}, proofs.Laws.{refl, sym, ap, _∙_, arith, same-differs, same-append}}
+use Rattle.base.{specs.Base.{ℕ, zero, suc, _-_, _≤_, _≡_, Bool, _&&_, List, [], _∷_, _++_, eqb, length, getD, drop, replicate, all, same, isEmpty, padded}, proofs.Laws.{refl, sym, ap, _∙_, arith, same-append}}
 use lib.ListN.{length-append}
 use Rattle.stored_names.proofs.NameUnits.{units-end, units-none}
 use Rattle.stored_names.specs.StoredNames.{units, wellStored}
@@ -45,8 +45,3 @@ well-stored n =
 pub zeros-stored : (limit : ℕ) (n : List ℕ) → getD n 0 0 ≡ 0 → wellStored limit n ≡ same n (replicate limit 0)
 unfolding wellStored padded
 zeros-stored limit n e = rw (wellStored, units-end n 0 e, padded) (ap (λ (k : ℕ). same n (replicate k 0)) (let z : limit - 0 ≡ limit = omega arith in z))
-
-pub zeros-not : (limit : ℕ) (n : List ℕ) → 0 < limit → (getD n 0 0 ≡ 0 → ⊥) → same n (replicate limit 0) ≡ false
-zeros-not zero n h e = absurd (let z : ⊥ = omega arith in z)
-zeros-not (suc limit) [] h e = absurd (e refl)
-zeros-not (suc limit) (u ∷ us) h e = same-differs u 0 us (replicate limit 0) e

@@ -1,9 +1,8 @@
 -- `admit::admit_existing` meets its contract: what the access rule answers goes on.
 use Rattle.base.{specs.Base.{_>>=_, namespace}, proofs.Laws.{needs}}
 use Rattle.access.specs.Access.{checkedAccess}
-use Rattle.store.specs.Prepare.{grant}
+use Rattle.store.specs.Prepare.{grant, admitExisting}
 use Rattle.open_steps.specs.Pendings.{asPending, asExisting}
-use Rattle.admit.specs.Admitted.{admitExisting}
 use Rattle.admit.proofs.admit_existing.Statement.{statement}
 use Rattle.admit.proofs.admit_existing.Tie as tie
 

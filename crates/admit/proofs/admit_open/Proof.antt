@@ -2,12 +2,11 @@
 use Rattle.base.proofs.Laws.{needs}
 use Rattle.store.specs.Prepare.{admitOpen}
 use Rattle.open_steps.specs.Pendings.{asExisting, asAttributes}
-use Rattle.admit.specs.Admitted.{admitExisting}
 use Rattle.admit.proofs.admit_open.Statement.{statement}
 use Rattle.admit.proofs.admit_open.Tie as tie
 
 returns : tie.Need-returns
-unfolding admitOpen admitExisting asExisting asAttributes
+unfolding admitOpen asExisting asAttributes
 returns c path = c .admit-existing .ensures path
 
 pub admit-open-spec : {M : Type 1} → statement M

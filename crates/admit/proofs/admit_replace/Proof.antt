@@ -5,7 +5,6 @@ use Rattle.layout.specs.Layout.{decode}
 use Rattle.tables.specs.Tables.{fileAt}
 use Rattle.store.specs.Prepare.{hiddenOrSystem, admitReplace}
 use Rattle.open_steps.specs.Pendings.{asPending, asExisting, asReadSharing}
-use Rattle.admit.specs.Admitted.{admitExisting}
 use Rattle.admit.proofs.admit_replace.Statement.{statement}
 use Rattle.admit.proofs.admit_replace.Tie as tie
 
@@ -19,7 +18,7 @@ unfolding asPending admitReplace refuseIf _>>_ namespace
 returns c path = rw (← old-attributes (c .before), c .if1 .taken)
 
 returns-2 : tie.Need-returns-2
-unfolding asExisting asReadSharing admitExisting admitReplace refuseIf _>>_ namespace
+unfolding asExisting asReadSharing admitReplace refuseIf _>>_ namespace
 returns-2 c path =
     let p = c .before in
     let g = p .before .before .before in

@@ -1,6 +1,6 @@
 -- `name_tests::well_stored` meets its contract. The loop's invariant: what was counted and added up, with what the places
 -- left give, is that of the name.
-use Rattle.base.{specs.Base.{ℕ, _+_, _*_, _-_, _≤_, _≡_, fileNameLimit, length, getD, drop}, proofs.Laws.{sym, _∙_, ap, arith, needs, le-leb, lt-leb}}
+use Rattle.base.{specs.Base.{_+_, _*_, _-_, _≤_, _≡_, fileNameLimit, length, getD, drop}, proofs.Laws.{arith, needs, le-leb, lt-leb}}
 use native.Mathlib.Nat.{mul-le-mul}
 use Rattle.name_tests.proofs.{Odds.{counted, odds, odds-stored, counted-next, odds-next, counted-end, odds-end, some-bound}, well_stored.Statement.statement}
 use Rattle.name_tests.proofs.well_stored.Tie as tie

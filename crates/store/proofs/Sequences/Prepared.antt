@@ -9,7 +9,7 @@ use Rattle.paths.{proofs.Parsed.{LeafFits, parsed-ends}, specs.Paths.Leaf}
 use Rattle.stream_lookup.specs.StreamLookup.{streamMatches, findStream}
 use Rattle.tables.specs.Tables.{fileAt}
 use Rattle.store.proofs.Sequences.{Facts.{AttributesFit, Early, NamespaceConsistent, PendingFits}, Granted.grant-ends, Located.{MissingFits, PlaceFits, SearchFits, StreamThere, located-ends, searched, unnamed-ends}, Requested.{RequestFits, archived, attributes-new, granted-new, replaced, requested}}
-use Rattle.store.specs.{Prepare.{Pending, ReadSharing, admit, admitFile, admitOpen, admitReplace, admitStream, asOffered, fileNew, gained, newType, prepare, replacement}, Request.{wantsDirectory, wantsFile}, Target.{Target, existingDirectory, existingStream, missingFile, missingStream, target, targetAt, targetData, targetDirectory, targetFound, targetNew, wrongType}}
+use Rattle.store.specs.{Prepare.{Existing, Pending, ReadSharing, admit, admitExisting, admitFile, admitOpen, admitReplace, admitStream, asOffered, fileNew, gained, newType, prepare, replacement}, Request.{wantsDirectory, wantsFile}, Target.{Target, existingDirectory, existingStream, missingFile, missingStream, target, targetAt, targetData, targetDirectory, targetFound, targetNew, wrongType}}
 
 -- a status by a test
 early-cond : (b : Bool) (x y : Status) → Early (record { status = x }) → Early (record { status = y })
@@ -113,19 +113,20 @@ gains a b nz e = nz (let h : a ≤ bitOr a b = within-le a (bitOr a b) (within-o
 
 module _ (ns : Namespace) (r : Request) (ok : NamespaceConsistent ns) (fits : RequestFits r) where
   -- steps 10 and 11, a stream that is there
+  existing-ends : (e : Existing) → fileUsed (fileAt (ns .files) (e .file)) ≡ true → StreamThere ns (e .file) (e .stream)
+      → e .terms .granted ≢ 0
+      → ((a : ℕ) → e .attributes ≡ some a → AttributesFit ns (e .file) a)
+      → Ends Early (PendingFits ns) (admitExisting ns r e)
+  unfolding admitExisting
+  existing-ends e used there asked attributes =
+      ends-bind (grant-ends ns r (e .file) (e .terms .granted) ok fits used asked)
+      (λ terms g.
+      goes (record { terms = g; streamUsed = there .streamUsed; streamFile = there .streamFile; attributes = attributes }))
+
   open-ends : (f : FileNo) (s : StreamNo) (sharing : ReadSharing) → fileUsed (fileAt (ns .files) f) ≡ true
       → StreamThere ns f s → Ends Early (PendingFits ns) (admitOpen ns r f s sharing)
   unfolding admitOpen
-  open-ends f s sharing used there =
-      ends-bind (grant-ends ns r f (r .access) ok fits used (fits .accessNonzero))
-      (λ terms g.
-      goes
-      (record {
-        terms = g;
-        streamUsed = there .streamUsed;
-        streamFile = there .streamFile;
-        attributes = λ a e. absurd (none≢some e);
-      }))
+  open-ends f s sharing used there = existing-ends _ used there (fits .accessNonzero) (λ a e. absurd (none≢some e))
 
   replacement-fits : (f : FileNo) (unnamed : Bool) (a : ℕ) → DataFile ns f → replacement r unnamed ≡ some a → AttributesFit ns f a
   unfolding replacement
@@ -139,17 +140,8 @@ module _ (ns : Namespace) (r : Request) (ok : NamespaceConsistent ns) (fits : Re
   replace-ends f s unnamed dataFile there =
       ends-test _ _ (refl, refl)
       (λ h.
-      ends-bind
-      (grant-ends ns r f (bitOr (r .access) (gained r unnamed)) ok fits (dataFile .used)
-      (gains (r .access) (gained r unnamed) (fits .accessNonzero)))
-      (λ terms g.
-      goes
-      (record {
-        terms = g;
-        streamUsed = there .streamUsed;
-        streamFile = there .streamFile;
-        attributes = λ a e. replacement-fits f unnamed a dataFile e;
-      })))
+      existing-ends _ (dataFile .used) there (gains (r .access) (gained r unnamed) (fits .accessNonzero))
+      (λ a e. replacement-fits f unnamed a dataFile e))
 
   -- step 11, stream missing
   stream-ends : (f : FileNo) (leaf : Leaf) → DataFile ns f → StreamMissing ns (r .fold) f (leaf .stream)
