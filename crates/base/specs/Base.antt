@@ -13,9 +13,9 @@ pub use lib.Seq.{slice}
 unfoldable pub use Rattle.bits.specs.Bits.{within, has, without}
 pub use Rattle.lists.specs.Lists.{Permutation, nil, skip, swap, both, first, firstFree}
 unfoldable pub use Rattle.lists.specs.Lists.{all, allFrom, any, count, keep, pairs, firstFrom, find, firstAfter, writes, isEmpty, same, oneOf, padded}
-pub use Rattle.records.specs.declared.{FileNo.FileNo, LinkNo.LinkNo, StreamNo.StreamNo, Handle.Handle, FileType.FileType, FileType.the-variants.Unused, FileType.the-variants.Data, FileType.the-variants.Directory, File.File, Link.Link, ShareCounts.ShareCounts, Stream.Stream, Open.Open, Volume.Volume, OpenTable.OpenTable, Request.Request, CreateAction.CreateAction, CreateAction.the-variants.Superseded, CreateAction.the-variants.Opened, CreateAction.the-variants.Created, CreateAction.the-variants.Overwritten, Status.Status, Status.the-variants.FileCorruptError, Status.the-variants.InvalidParameter, Status.the-variants.AccessDenied, Status.the-variants.ObjectNameInvalid, Status.the-variants.MediaWriteProtected, Status.the-variants.ObjectPathNotFound, Status.the-variants.ObjectNameNotFound, Status.the-variants.ObjectNameCollision, Status.the-variants.FileIsADirectory, Status.the-variants.NotADirectory, Status.the-variants.SharingViolation, Status.the-variants.DiskFull, Status.the-variants.TooManyOpenedFiles, Status.the-variants.InsufficientResources, Status.the-variants.InvalidHandle, Outcome.Outcome, Outcome.the-variants.Success, Outcome.the-variants.Done, Outcome.the-variants.Refused, Answer.Answer}
+pub use Rattle.records.specs.declared.{FileNo.FileNo, LinkNo.LinkNo, StreamNo.StreamNo, Handle.Handle, FileType.FileType, FileType.the-variants.Unused, FileType.the-variants.Data, FileType.the-variants.Directory, File.File, Link.Link, ShareCounts.ShareCounts, Stream.Stream, Open.Open, Volume.Volume, OpenTable.OpenTable, Request.Request, CreateAction.CreateAction, CreateAction.the-variants.Superseded, CreateAction.the-variants.Opened, CreateAction.the-variants.Created, CreateAction.the-variants.Overwritten, Status.Status, Status.the-variants.FileCorruptError, Status.the-variants.InvalidParameter, Status.the-variants.AccessDenied, Status.the-variants.ObjectNameInvalid, Status.the-variants.MediaWriteProtected, Status.the-variants.ObjectPathNotFound, Status.the-variants.ObjectNameNotFound, Status.the-variants.ObjectNameCollision, Status.the-variants.FileIsADirectory, Status.the-variants.NotADirectory, Status.the-variants.SharingViolation, Status.the-variants.DiskFull, Status.the-variants.TooManyOpenedFiles, Status.the-variants.InsufficientResources, Status.the-variants.InvalidHandle, Status.the-variants.CannotDelete, Status.the-variants.DeletePending, Outcome.Outcome, Outcome.the-variants.Success, Outcome.the-variants.Done, Outcome.the-variants.Refused, Answer.Answer}
 pub use Rattle.records.specs.Sizes.{fileSlots, linkSlots, streamSlots, openSlots, fileNameLimit, streamNameLimit, pathLimit, accounts, lastHandle}
-pub use Rattle.records.specs.Constants.{supersede, openOnly, create, openIf, overwrite, overwriteIf, directoryFile, nonDirectoryFile, disallowExclusive, readOnly, hidden, system, directory, archive, temporary, notContentIndexed, fileAttributes, writeData, appendData, addFile, addSubdirectory, delete, allAccess, fileGenericWrite, maximumAllowed, shareRead, shareAll}
+pub use Rattle.records.specs.Constants.{supersede, openOnly, create, openIf, overwrite, overwriteIf, directoryFile, nonDirectoryFile, deleteOnClose, disallowExclusive, readOnly, hidden, system, directory, archive, temporary, notContentIndexed, fileAttributes, writeData, appendData, addFile, addSubdirectory, delete, allAccess, fileGenericWrite, maximumAllowed, shareRead, shareAll}
 pub use Rattle.records.specs.Numbers.{Reply, Seen, refusedReply, doneReply}
 unfoldable pub use Rattle.records.specs.Numbers.{statusNumber, actionNumber, seen}
 pub use Rattle.records.specs.Slots.{root, zeroFile, zeroLink, zeroCounts, zeroStream, zeroOpen}

@@ -44,10 +44,11 @@ asFilePlace Slots.Full = refuse DiskFull
 asFilePlace (Slots.At s) = passed s
 
 -- step 12's end
-unfoldable pub finished : View → CreateAction → Placed → Terms → Checked Decision
-finished view action placed terms = do
+unfoldable pub finished : View → CreateAction → Placed → Terms → Bool → Checked Decision
+finished view action placed terms deletes = do
   handle ← nextHandle view
-  passed (record { action = action; placed = placed; terms = terms; handle = handle })
+  passed
+      (record { action = action; placed = placed; terms = terms; handle = handle; deleteOnClose = deletes })
 
 -- an accepted open's row is the lowest free one
 unfoldable pub TakesFreeRow : List Open → DecidedOpen → Type 0
@@ -59,5 +60,5 @@ pub record Decides (t : Tables) (path : List ℕ) (x : DecidedOpen) (d : Checked
   pub is : asDecision (namespace (t .volume)) path x ≡ d
   pub row : TakesFreeRow (t .opens .rows) x
 
-abbrev pub completed : View → Namespace → Checked Pending → Checked Decision
-completed view ns p = p >>= complete view ns
+abbrev pub completed : View → Namespace → Bool → Checked Pending → Checked Decision
+completed view ns deletes p = p >>= complete view ns deletes

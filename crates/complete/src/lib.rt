@@ -37,7 +37,7 @@ ghost use Rattle.records.specs.Terms.{Terms};
 ghost use Rattle.records.specs.Namespace.{namespace};
 ghost use Rattle.layout.specs.Layout.{tablesSize, decode};
 ghost use Rattle.paths.specs.Positions.{asLeaf};
-ghost use Rattle.open_table.specs.Rows.{fileHasOpen};
+ghost use Rattle.tables.specs.Tables.{fileHasOpen};
 ghost use Rattle.free_slots.specs.Free.{streamSlot};
 ghost use Rattle.store.specs.Prepare.{existing, creating, newStream, newFile};
 ghost use Rattle.store.specs.Complete.{shareOf};

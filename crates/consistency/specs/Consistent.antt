@@ -1,10 +1,10 @@
 -- Consistent tables (document 01: "Tables are sound when"), as statements: a record for each table, over those that it
 -- refers to, so that a change to one table leaves the other groups alone. Good has the clauses of a slot by itself and
 -- of two.
-use Rattle.base.specs.Base.{ℕ, _≤_, _<_, _≡_, true, List, _≢_, length, getD, count, fileSlots, linkSlots, streamSlots, openSlots, root, zeroFile, zeroLink, zeroOpen, isDirectory, fileUsed, linkUsed, openUsed, BareStream, zeroBare, bareUsed, bareAt, namespace, FileNo, StreamNo, File, Link, Stream, Open, OpenTable, Volume}
+use Rattle.base.specs.Base.{ℕ, _≤_, _<_, _≡_, true, false, List, _≢_, length, getD, count, fileSlots, linkSlots, streamSlots, openSlots, root, zeroFile, zeroLink, zeroOpen, isDirectory, fileUsed, linkUsed, openUsed, BareStream, zeroBare, bareUsed, bareAt, namespace, FileNo, StreamNo, File, Link, Stream, Open, OpenTable, Volume}
 use Rattle.sharing.specs.Sharing.{countsOf}
-use Rattle.tables.specs.Tables.{fileAt, streamAt, live}
-use Rattle.consistency.specs.{Relations.{typeAt, linkTo, streamOf, unnamedOf, climb}, Slots.{Slots, EveryTwo}, Good.{GoodFile, GoodLink, LinkNamesDiffer, GoodStream, StreamNamesDiffer, GoodOpen, HandlesDiffer, OpensAgree}}
+use Rattle.tables.specs.Tables.{fileAt, streamAt, live, fileHasOpen, streamHasOpen}
+use Rattle.consistency.specs.{Relations.{typeAt, linkTo, hasChildren, streamOf, unnamedOf, climb}, Slots.{Slots, EveryTwo}, Good.{GoodFile, GoodLink, LinkNamesDiffer, GoodStream, StreamNamesDiffer, GoodOpen, HandlesDiffer, OpensAgree}}
 
 pub record FilesConsistent (fs : List File) : Type 0 where
   pub slots : Slots fileUsed zeroFile GoodFile fileSlots fs
@@ -52,6 +52,16 @@ CountsTrue ss os = (s : StreamNo) → s .0 < length ss → streamAt ss s .counts
 abbrev pub NoConflicts : List Open → Type 0
 NoConflicts os = EveryTwo openUsed zeroOpen OpensAgree os
 
+-- the root is never marked, and a marked directory has no children
+pub record MarksConsistent (fs : List File) (ls : List Link) : Type 0 where
+  pub rootUnmarked : fileAt fs root .«delete_pending» ≡ false
+  pub markedChildless : (f : FileNo) → fileAt fs f .«delete_pending» ≡ true → hasChildren ls f ≡ false
+
+-- a marked file has a live open, and a marked stream one of its own
+pub record MarksHeld (fs : List File) (ss : List BareStream) (os : List Open) : Type 0 where
+  pub files : (f : FileNo) → fileAt fs f .«delete_pending» ≡ true → fileHasOpen os f ≡ true
+  pub streams : (s : StreamNo) → bareAt ss s .deletePending ≡ true → streamHasOpen os s ≡ true
+
 pub record Consistent (v : Volume) (t : OpenTable) : Type 0 where
   pub files : FilesConsistent (v .files)
   pub links : LinksConsistent (v .files) (v .links)
@@ -59,3 +69,5 @@ pub record Consistent (v : Volume) (t : OpenTable) : Type 0 where
   pub opens : OpensConsistent (namespace v .streams) (v .«next_handle» .0) (t .rows)
   pub counts : CountsTrue (v .streams) (t .rows)
   pub conflicts : NoConflicts (t .rows)
+  pub marks : MarksConsistent (v .files) (v .links)
+  pub held : MarksHeld (v .files) (namespace v .streams) (t .rows)

@@ -1,7 +1,7 @@
 -- What a used slot of each table is by itself, and what two are to each other (document 01: "Tables are sound when"): a
 -- field for each clause, and the same as a test. What a slot asks of a record of another table stands beside it. And of a
 -- free slot, one without kind, link name or handle, the test that the rest is zero too.
-use Rattle.base.specs.Base.{ℕ, _≤_, _<_, _≡_, Bool, true, false, not, _&&_, _≢_, eqb, leb, ltb, replicate, within, has, same, fileNameLimit, streamNameLimit, accounts, directory, fileAttributes, allAccess, shareAll, isUsed, isDirectory, BareStream, bareUsed, FileType, File, Link, Terms, termsOf, Open}
+use Rattle.base.specs.Base.{ℕ, _≤_, _<_, _≡_, Bool, true, false, not, _&&_, _≢_, eqb, leb, ltb, replicate, within, has, same, fileNameLimit, streamNameLimit, accounts, directory, fileAttributes, allAccess, shareAll, isEmpty, root, isUsed, isDirectory, BareStream, bareUsed, FileType, File, Link, Terms, termsOf, Open}
 use mathlib.Core.Bool.{Bool·beq}
 use Rattle.names.specs.Names.{validFileName, validStreamName}
 use Rattle.sharing.specs.Sharing.{conflicting}
@@ -26,7 +26,7 @@ goodFile f =
     && validMasks (f .masks)
 
 unfoldable pub isZeroFile : File → Bool
-isZeroFile f = eqb (f .attributes) 0 && same (f .masks) (replicate accounts 0)
+isZeroFile f = eqb (f .attributes) 0 && same (f .masks) (replicate accounts 0) && not (f .«delete_pending»)
 
 -- links, with the types of the file and of the parent
 
@@ -61,6 +61,8 @@ pub record GoodStream (file : FileType) (s : BareStream) : Type 0 where
   pub nameValid : validStreamName streamNameLimit (units (s .name)) ≡ true
   pub namesUsedFile : isUsed file ≡ true
   pub typeAgrees : s .streamType ≡ file
+  -- among streams only named ones are marked
+  pub markedNamed : s .deletePending ≡ true → isEmpty (units (s .name)) ≡ false
 
 unfoldable pub goodStream : FileType → BareStream → Bool
 goodStream file s =
@@ -68,9 +70,11 @@ goodStream file s =
     && validStreamName streamNameLimit (units (s .name))
     && isUsed file
     && Bool·beq (isDirectory (s .streamType)) (isDirectory file)
+    && not (s .deletePending && isEmpty (units (s .name)))
 
 unfoldable pub isZeroStream : BareStream → Bool
-isZeroStream s = eqb (s .file .0) 0 && same (s .name) (replicate streamNameLimit 0)
+isZeroStream s =
+    eqb (s .file .0) 0 && same (s .name) (replicate streamNameLimit 0) && not (s .deletePending)
 
 -- nor two streams of one file
 abbrev pub StreamNamesDiffer : BareStream → BareStream → Type 0
@@ -92,6 +96,8 @@ pub record GoodOpen (s : BareStream) (next : ℕ) (o : Open) : Type 0 where
   pub terms : GoodTerms (termsOf o)
   -- at least 1 too, since a used slot has a handle
   pub handleBelow : o .handle .0 < next
+  -- the root is never held by a delete-on-close open
+  pub rootStays : o .«delete_on_close» ≡ true → o .file ≢ root
 
 unfoldable pub goodOpen : BareStream → ℕ → Open → Bool
 goodOpen s next o =
@@ -101,9 +107,15 @@ goodOpen s next o =
     && within (o .granted) allAccess
     && leb (o .share) shareAll
     && ltb (o .handle .0) next
+    && not (o .«delete_on_close» && eqb (o .file .0) 0)
 
 unfoldable pub isZeroOpen : Open → Bool
-isZeroOpen o = eqb (o .file .0) 0 && eqb (o .stream .0) 0 && eqb (o .granted) 0 && eqb (o .share) 0
+isZeroOpen o =
+    eqb (o .file .0) 0
+    && eqb (o .stream .0) 0
+    && eqb (o .granted) 0
+    && eqb (o .share) 0
+    && not (o .«delete_on_close»)
 
 -- handles are distinct
 abbrev pub HandlesDiffer : Open → Open → Type 0

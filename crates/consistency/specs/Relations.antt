@@ -1,5 +1,5 @@
 -- How the tables refer to each other: links to files, streams to files, parents.
-use Rattle.base.specs.Base.{ℕ, zero, suc, Bool, true, false, _&&_, List, [], _∷_, eqb, length, within, all, isEmpty, accounts, allAccess, linkUsed, BareStream, bareUsed, FileType, FileNo, File, Link}
+use Rattle.base.specs.Base.{ℕ, zero, suc, Bool, true, false, _&&_, List, [], _∷_, eqb, length, within, all, any, isEmpty, accounts, allAccess, linkUsed, BareStream, bareUsed, FileType, FileNo, File, Link}
 use Rattle.stored_names.specs.StoredNames.{units}
 use Rattle.tables.specs.Tables.{fileAt}
 
@@ -14,6 +14,13 @@ validMasks ms = eqb (length ms) accounts && all (λ m. within m allAccess) ms
 -- a used link names the file
 unfoldable pub linkTo : FileNo → Link → Bool
 linkTo f l = linkUsed l && eqb (l .file .0) (f .0)
+
+-- a used link has the file as its parent; some link has, so that the file has children
+unfoldable pub childOf : FileNo → Link → Bool
+childOf f l = linkUsed l && eqb (l .parent .0) (f .0)
+
+unfoldable pub hasChildren : List Link → FileNo → Bool
+hasChildren ls f = any (childOf f) ls
 
 -- a used stream is the file's; and it has the empty name
 unfoldable pub streamOf : FileNo → BareStream → Bool

@@ -1,8 +1,8 @@
 -- Consistency as a test that computes. proofs/ shows that it answers true exactly when the tables are Consistent.
-use Rattle.base.specs.Base.{ℕ, Bool, cond, not, _&&_, _||_, List, eqb, leb, allFrom, count, keep, pairs, fileSlots, linkSlots, streamSlots, openSlots, root, isDirectory, fileUsed, linkUsed, openUsed, BareStream, bareUsed, bareAt, namespace, FileNo, File, Link, ShareCounts, Stream, Open, OpenTable, Volume}
+use Rattle.base.specs.Base.{ℕ, Bool, cond, not, _&&_, _||_, List, eqb, leb, allFrom, count, keep, pairs, fileSlots, linkSlots, streamSlots, openSlots, root, isDirectory, fileUsed, linkUsed, openUsed, BareStream, bareUsed, bareAt, namespace, FileNo, StreamNo, File, Link, ShareCounts, Stream, Open, OpenTable, Volume}
 use Rattle.sharing.specs.Sharing.{countsOf}
-use Rattle.tables.specs.Tables.{live}
-use Rattle.consistency.specs.{Relations.{typeAt, linkTo, streamOf, unnamedOf, reaches}, Slots.slotsTest, Good.{goodFile, isZeroFile, goodLink, isZeroLink, linkNamesDiffer, goodStream, isZeroStream, streamNamesDiffer, goodOpen, isZeroOpen, handlesDiffer, opensAgree}}
+use Rattle.tables.specs.Tables.{live, fileHasOpen, streamHasOpen}
+use Rattle.consistency.specs.{Relations.{typeAt, linkTo, hasChildren, streamOf, unnamedOf, reaches}, Slots.slotsTest, Good.{goodFile, isZeroFile, goodLink, isZeroLink, linkNamesDiffer, goodStream, isZeroStream, streamNamesDiffer, goodOpen, isZeroOpen, handlesDiffer, opensAgree}}
 
 -- files
 
@@ -77,6 +77,19 @@ countsTest ss os = allFrom (λ n s. sameCounts (s .counts) (countsOf (record { 0
 unfoldable pub conflictsTest : List Open → Bool
 conflictsTest os = pairs opensAgree (live os)
 
+-- marks
+
+unfoldable pub fileMarkTest : List Link → List Open → ℕ → File → Bool
+fileMarkTest ls os n f =
+    let number : FileNo = record { 0 = n } in
+    not (f .«delete_pending») || (not (eqb n 0) && not (hasChildren ls number) && fileHasOpen os number)
+
+unfoldable pub streamMarkTest : List Open → ℕ → BareStream → Bool
+streamMarkTest os n s = not (s .deletePending) || streamHasOpen os (record { 0 = n })
+
+unfoldable pub marksTest : List File → List Link → List BareStream → List Open → Bool
+marksTest fs ls ss os = allFrom (fileMarkTest ls os) 0 fs && allFrom (streamMarkTest os) 0 ss
+
 -- all of it
 unfoldable pub consistent : Volume → OpenTable → Bool
 consistent v t =
@@ -86,3 +99,4 @@ consistent v t =
     && opensTest (namespace v .streams) (v .«next_handle» .0) (t .rows)
     && countsTest (v .streams) (t .rows)
     && conflictsTest (t .rows)
+    && marksTest (v .files) (v .links) (namespace v .streams) (t .rows)

@@ -1,5 +1,5 @@
 -- Format: eight masks and a read-only mark make fresh tables. It needs right lengths, tested before the masks.
-use Rattle.base.specs.Base.{ℕ, Bool, not, _&&_, List, eqb, length, replicate, set, all, fileSlots, linkSlots, streamSlots, openSlots, fileNameLimit, streamNameLimit, accounts, directory, root, zeroFile, zeroLink, zeroCounts, zeroStream, zeroOpen, Checked, passed, _>>_, refuseIf, Tables, Step, done, concluded, FileCorruptError, InvalidParameter, Directory, File, Stream, Volume, OpenTable}
+use Rattle.base.specs.Base.{ℕ, Bool, false, not, _&&_, List, eqb, length, replicate, set, all, fileSlots, linkSlots, streamSlots, openSlots, fileNameLimit, streamNameLimit, accounts, directory, root, zeroFile, zeroLink, zeroCounts, zeroStream, zeroOpen, Checked, passed, _>>_, refuseIf, Tables, Step, done, concluded, FileCorruptError, InvalidParameter, Directory, File, Stream, Volume, OpenTable}
 use Rattle.consistency.specs.Relations.{validMasks}
 
 -- "lengths are as above": of the tables, and of the arrays in their records
@@ -15,11 +15,18 @@ rightLengths v t =
 
 -- file 0 and its stream
 unfoldable pub rootFile : List ℕ → File
-rootFile masks = record { «file_type» = Directory; attributes = directory; masks = masks }
+rootFile masks =
+    record { «file_type» = Directory; attributes = directory; masks = masks; «delete_pending» = false }
 
 abbrev pub rootStream : Stream
 rootStream =
-    record { file = root; «stream_type» = Directory; name = replicate streamNameLimit 0; counts = zeroCounts }
+    record {
+      file = root;
+      «stream_type» = Directory;
+      name = replicate streamNameLimit 0;
+      counts = zeroCounts;
+      «delete_pending» = false;
+    }
 
 unfoldable pub freshVolume : List ℕ → Bool → Volume
 freshVolume masks readOnly =

@@ -1,4 +1,4 @@
--- The numbers of a kind and of the read-only mark.
+-- The numbers of a kind and of a mark.
 use Rattle.base.specs.Base.{ℕ, zero, suc, Bool, true, false, FileType, Unused, Data, Directory}
 
 -- how many there are

@@ -75,9 +75,18 @@ streamsAt = linksAt + linksCodec .size
 abbrev pub opensAt : ℕ
 opensAt = streamsAt + streamsCodec .size
 
--- the counts' place in a stream
+-- the marks' places in a file, a stream and an open: last; and that of the counts in a stream, before its mark
+abbrev pub fileMarkIn : ℕ
+fileMarkIn = fileSize - markCodec .size
+
+abbrev pub streamMarkIn : ℕ
+streamMarkIn = streamSize - markCodec .size
+
+abbrev pub openMarkIn : ℕ
+openMarkIn = openSize - markCodec .size
+
 abbrev pub countsIn : ℕ
-countsIn = streamSize - countsCodec .size
+countsIn = streamMarkIn - countsCodec .size
 
 -- the bytes of tables
 unfoldable pub encode : Tables → List ℕ

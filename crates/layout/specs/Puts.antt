@@ -78,7 +78,14 @@ putStream t n s =
 
 -- a stream's share counts alone
 abbrev pub recounted : Stream → ShareCounts → Stream
-recounted s c = record { file = s .file; «stream_type» = s .«stream_type»; name = s .name; counts = c }
+recounted s c =
+    record {
+      file = s .file;
+      «stream_type» = s .«stream_type»;
+      name = s .name;
+      counts = c;
+      «delete_pending» = s .«delete_pending»;
+    }
 
 abbrev pub putCounts : Tables → StreamNo → ShareCounts → Tables
 putCounts t n c = putStream t n (recounted (getD (t .volume .streams) (n .0) zeroStream) c)

@@ -18,17 +18,18 @@ streamNoCodec = via (λ n. record { 0 = n }) (λ s. s .0) (number 2)
 abbrev pub handleCodec : Codec Handle
 handleCodec = via (λ n. record { 0 = n }) (λ h. h .0) (number 8)
 
--- kind, attributes, a mask for each account
-abbrev pub fileOf : FileType × (ℕ × List ℕ) → File
-fileOf p = record { «file_type» = p .0; attributes = p .1 .0; masks = p .1 .1 }
+-- kind, attributes, a mask for each account, the mark of one that goes with its last open
+abbrev pub fileOf : FileType × (ℕ × (List ℕ × Bool)) → File
+fileOf p =
+    record { «file_type» = p .0; attributes = p .1 .0; masks = p .1 .1 .0; «delete_pending» = p .1 .1 .1 }
 
-abbrev pub fileFields : File → FileType × (ℕ × List ℕ)
-fileFields f = (f .«file_type», (f .attributes, f .masks))
+abbrev pub fileFields : File → FileType × (ℕ × (List ℕ × Bool))
+fileFields f = (f .«file_type», (f .attributes, (f .masks, f .«delete_pending»)))
 
 abbrev pub fileCodec : Codec File
 fileCodec =
     via fileOf fileFields
-    (kindCodec ⊗ number 4 ⊗ row (number 4) accounts)
+    (kindCodec ⊗ number 4 ⊗ row (number 4) accounts ⊗ markCodec)
 
 -- parent, file, name
 abbrev pub linkOf : FileNo × (FileNo × List ℕ) → Link
@@ -66,27 +67,41 @@ countsCodec =
     via countsOf countsFields
     (number 2 ⊗ number 2 ⊗ number 2 ⊗ number 2 ⊗ number 2 ⊗ number 2 ⊗ number 2)
 
--- kind, file, name, counts
-abbrev pub streamOf : FileType × (FileNo × (List ℕ × ShareCounts)) → Stream
-streamOf p = record { «stream_type» = p .0; file = p .1 .0; name = p .1 .1 .0; counts = p .1 .1 .1 }
+-- kind, file, name, counts, the mark
+abbrev pub streamOf : FileType × (FileNo × (List ℕ × (ShareCounts × Bool))) → Stream
+streamOf p =
+    record {
+      «stream_type» = p .0;
+      file = p .1 .0;
+      name = p .1 .1 .0;
+      counts = p .1 .1 .1 .0;
+      «delete_pending» = p .1 .1 .1 .1;
+    }
 
-abbrev pub streamFields : Stream → FileType × (FileNo × (List ℕ × ShareCounts))
-streamFields s = (s .«stream_type», (s .file, (s .name, s .counts)))
+abbrev pub streamFields : Stream → FileType × (FileNo × (List ℕ × (ShareCounts × Bool)))
+streamFields s = (s .«stream_type», (s .file, (s .name, (s .counts, s .«delete_pending»))))
 
 abbrev pub streamCodec : Codec Stream
 streamCodec =
     via streamOf streamFields
-    (kindCodec ⊗ fileNoCodec ⊗ row (number 2) streamNameLimit ⊗ countsCodec)
+    (kindCodec ⊗ fileNoCodec ⊗ row (number 2) streamNameLimit ⊗ countsCodec ⊗ markCodec)
 
--- handle, file, stream, granted access, sharing mode
-abbrev pub openOf : Handle × (FileNo × (StreamNo × (ℕ × ℕ))) → Open
+-- handle, file, stream, granted access, sharing mode, delete on close
+abbrev pub openOf : Handle × (FileNo × (StreamNo × (ℕ × (ℕ × Bool)))) → Open
 openOf p =
-    record { handle = p .0; file = p .1 .0; stream = p .1 .1 .0; granted = p .1 .1 .1 .0; share = p .1 .1 .1 .1 }
+    record {
+      handle = p .0;
+      file = p .1 .0;
+      stream = p .1 .1 .0;
+      granted = p .1 .1 .1 .0;
+      share = p .1 .1 .1 .1 .0;
+      «delete_on_close» = p .1 .1 .1 .1 .1;
+    }
 
-abbrev pub openFields : Open → Handle × (FileNo × (StreamNo × (ℕ × ℕ)))
-openFields o = (o .handle, (o .file, (o .stream, (o .granted, o .share))))
+abbrev pub openFields : Open → Handle × (FileNo × (StreamNo × (ℕ × (ℕ × Bool))))
+openFields o = (o .handle, (o .file, (o .stream, (o .granted, (o .share, o .«delete_on_close»)))))
 
 abbrev pub openCodec : Codec Open
 openCodec =
     via openOf openFields
-    (handleCodec ⊗ fileNoCodec ⊗ streamNoCodec ⊗ number 4 ⊗ number 4)
+    (handleCodec ⊗ fileNoCodec ⊗ streamNoCodec ⊗ number 4 ⊗ number 4 ⊗ markCodec)

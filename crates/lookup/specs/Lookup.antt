@@ -1,5 +1,6 @@
--- Step 6: from a path to its file. The lowest matching slot wins.
-use Rattle.base.specs.Base.{ℕ, Bool, true, false, cond, _&&_, List, [], _∷_, Option, none, some, eqb, first, isEmpty, root, isDirectory, Namespace, Checked, passed, refuse, _>>=_, ObjectPathNotFound, FileNo, LinkNo, Link}
+-- Step 6: from a path to its file. The lowest matching slot wins. A file that is marked, whatever it is and wherever it
+-- stands in the path, ends the search with DELETE_PENDING.
+use Rattle.base.specs.Base.{ℕ, Bool, true, false, _&&_, List, [], _∷_, Option, none, some, not, eqb, first, isEmpty, root, isDirectory, Namespace, Checked, passed, refuse, _>>=_, _>>_, refuseIf, ObjectPathNotFound, DeletePending, FileNo, LinkNo, Link}
 use Rattle.paths.specs.Paths.{Path, Leaf}
 use Rattle.stored_names.specs.StoredNames.{units}
 use Rattle.tables.specs.Tables.{fileAt, linkAt}
@@ -21,7 +22,10 @@ unfoldable pub stepInto : Namespace → Option LinkNo → Checked FileNo
 stepInto ns none = refuse ObjectPathNotFound
 stepInto ns (some l) =
     let file = linkAt (ns .links) l .file in
-    cond (isDirectory (fileAt (ns .files) file .«file_type»)) (passed file) (refuse ObjectPathNotFound)
+    do
+      refuseIf (fileAt (ns .files) file .«delete_pending») DeletePending
+      refuseIf (not (isDirectory (fileAt (ns .files) file .«file_type»))) ObjectPathNotFound
+      passed file
 
 unfoldable pub descend : Namespace → Bool → FileNo → List (List ℕ) → Checked FileNo
 descend ns fold dir [] = passed dir
@@ -45,11 +49,13 @@ foundRoot = found (record { link = none; file = root })
 abbrev pub foundBy : Namespace → LinkNo → Place
 foundBy ns l = found (record { link = some l; file = linkAt (ns .links) l .file })
 
-unfoldable pub placeIn : Namespace → FileNo → Leaf → Option LinkNo → Place
-placeIn ns dir leaf (some l) = foundBy ns l
-placeIn ns dir leaf none = missing dir leaf
+unfoldable pub placeIn : Namespace → FileNo → Leaf → Option LinkNo → Checked Place
+placeIn ns dir leaf none = passed (missing dir leaf)
+placeIn ns dir leaf (some l) = do
+  refuseIf (fileAt (ns .files) (linkAt (ns .links) l .file) .«delete_pending») DeletePending
+  passed (foundBy ns l)
 
-unfoldable pub locateLeaf : Namespace → Bool → FileNo → Leaf → Place
+unfoldable pub locateLeaf : Namespace → Bool → FileNo → Leaf → Checked Place
 locateLeaf ns fold dir leaf = placeIn ns dir leaf (findLink ns fold dir (leaf .file))
 
 -- the root's path has no last name
@@ -57,5 +63,5 @@ unfoldable pub locate : Namespace → Bool → Path → Checked Place
 locate ns fold path =
     elim (isEmpty (path .leaf .file)) [
       | true ↦ passed foundRoot
-      | false ↦ descend ns fold root (path .parents) >>= (λ dir. passed (locateLeaf ns fold dir (path .leaf)))
+      | false ↦ descend ns fold root (path .parents) >>= (λ dir. locateLeaf ns fold dir (path .leaf))
     ]

@@ -42,6 +42,7 @@ asAccepted ns path a =
       placed = asPlaced ns path (a .placed);
       terms = termsOver (a .granted) (a .share);
       handle = a .handle;
+      deleteOnClose = a .«delete_on_close»;
     }
 
 unfoldable pub asDecision : Namespace → List ℕ → DecidedOpen → Checked Decision

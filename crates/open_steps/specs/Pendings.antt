@@ -1,5 +1,5 @@
 -- What a pending open stands for (step 9, and the access part of steps 10 and 11).
-use Rattle.base.specs.Base.{ℕ, List, Option, none, some, Checked, passed, refuse, Terms, File}
+use Rattle.base.specs.Base.{ℕ, false, List, Option, none, some, Checked, passed, refuse, Terms, File}
 use Rattle.paths.specs.Positions.{asLeaf}
 use Rattle.store.specs.Prepare.{ReadSharing, asOffered, addedIfAlone, deniedIfAlone, Existing, newStream, newFile, Pending, existing, creating}
 use Rattle.tables.specs.Tables.{fileAt}
@@ -31,7 +31,13 @@ asExisting e =
 
 -- a new file copies the masks of its directory, which is one of these files
 unfoldable pub asFile : List File → FileToAdd → File
-asFile fs f = record { «file_type» = f .«file_type»; attributes = f .attributes; masks = fileAt fs (f .dir) .masks }
+asFile fs f =
+    record {
+      «file_type» = f .«file_type»;
+      attributes = f .attributes;
+      masks = fileAt fs (f .dir) .masks;
+      «delete_pending» = false;
+    }
 
 unfoldable pub asPending : List File → List ℕ → PendingOpen → Checked Pending
 asPending fs path (Open.Refused s) = refuse s

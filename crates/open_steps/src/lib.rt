@@ -103,6 +103,7 @@ pub struct AcceptedOpen {
     pub granted: u32,
     pub share: u32,
     pub handle: Handle,
+    pub delete_on_close: bool,
     pub row: usize,
 }
 

@@ -1,6 +1,6 @@
 -- What evaluation unfolds: a proof that names `computes` computes with all of these.
-use Rattle.open_table.specs.Rows.{anyOnFile}
+use Rattle.open_table.specs.Rows.{hasHandle}
 
 unfoldable pub computes : Unit {0}
-unfolding anyOnFile
+unfolding hasHandle
 computes = tt

@@ -6,7 +6,8 @@ use records_opens::read_open_file;
 ghost use mathlib.Core.Path.{_≡_};
 ghost use lib.ListN.{length};
 ghost use Rattle.layout.specs.Layout.{tablesSize, decode};
-ghost use Rattle.open_table.specs.Rows.{freeRow, rowSlot, fileHasOpen};
+ghost use Rattle.open_table.specs.Rows.{freeRow, rowSlot};
+ghost use Rattle.tables.specs.Tables.{fileHasOpen};
 
 // What a search for a row finds: the lowest one, or, as `Full`, that there is none. A row has no number of its own kind:
 // handles come from elsewhere.

@@ -27,6 +27,9 @@ directoryFile = 0x1
 abbrev pub nonDirectoryFile : ℕ
 nonDirectoryFile = 0x40
 
+abbrev pub deleteOnClose : ℕ
+deleteOnClose = 0x1000
+
 abbrev pub disallowExclusive : ℕ
 disallowExclusive = 0x20000
 

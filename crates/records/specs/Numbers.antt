@@ -1,7 +1,7 @@
 -- The paper's number, and the values beside it, for every case of an answer (document 01, "Statuses given").
 use Prim.Native.Nat.{ℕ}
 use mathlib.Core.Option.{Option, none, some}
-use Rattle.records.specs.declared.{CreateAction.{CreateAction, the-variants.{Superseded, Opened, Created, Overwritten}}, Status.{Status, the-variants.{FileCorruptError, InvalidParameter, AccessDenied, ObjectNameInvalid, MediaWriteProtected, ObjectPathNotFound, ObjectNameNotFound, ObjectNameCollision, FileIsADirectory, NotADirectory, SharingViolation, DiskFull, TooManyOpenedFiles, InsufficientResources, InvalidHandle}}, Outcome.{Outcome, the-variants.{Success, Done, Refused}}}
+use Rattle.records.specs.declared.{CreateAction.{CreateAction, the-variants.{Superseded, Opened, Created, Overwritten}}, Status.{Status, the-variants.{FileCorruptError, InvalidParameter, AccessDenied, ObjectNameInvalid, MediaWriteProtected, ObjectPathNotFound, ObjectNameNotFound, ObjectNameCollision, FileIsADirectory, NotADirectory, SharingViolation, DiskFull, TooManyOpenedFiles, InsufficientResources, InvalidHandle, CannotDelete, DeletePending}}, Outcome.{Outcome, the-variants.{Success, Done, Refused}}}
 
 unfoldable pub statusNumber : Status → ℕ
 statusNumber FileCorruptError = 0xC0000102
@@ -19,6 +19,8 @@ statusNumber DiskFull = 0xC000007F
 statusNumber TooManyOpenedFiles = 0xC000011F
 statusNumber InsufficientResources = 0xC000009A
 statusNumber InvalidHandle = 0xC0000008
+statusNumber CannotDelete = 0xC0000121
+statusNumber DeletePending = 0xC0000056
 
 unfoldable pub actionNumber : CreateAction → ℕ
 actionNumber Superseded = 0

@@ -10,7 +10,8 @@ root = record { 0 = 0 }
 
 -- free slots, "all zero"
 abbrev pub zeroFile : File
-zeroFile = record { «file_type» = Unused; attributes = 0; masks = replicate accounts 0 }
+zeroFile =
+    record { «file_type» = Unused; attributes = 0; masks = replicate accounts 0; «delete_pending» = false }
 
 abbrev pub zeroLink : Link
 zeroLink = record { parent = root; name = replicate fileNameLimit 0; file = root }
@@ -28,11 +29,25 @@ zeroCounts =
     }
 
 abbrev pub zeroStream : Stream
-zeroStream = record { file = root; «stream_type» = Unused; name = replicate streamNameLimit 0; counts = zeroCounts }
+zeroStream =
+    record {
+      file = root;
+      «stream_type» = Unused;
+      name = replicate streamNameLimit 0;
+      counts = zeroCounts;
+      «delete_pending» = false;
+    }
 
 abbrev pub zeroOpen : Open
 zeroOpen =
-    record { handle = record { 0 = 0 }; file = root; stream = record { 0 = 0 }; granted = 0; share = 0 }
+    record {
+      handle = record { 0 = 0 };
+      file = root;
+      stream = record { 0 = 0 };
+      granted = 0;
+      share = 0;
+      «delete_on_close» = false;
+    }
 
 -- used slots: those with a kind, a link name or a handle
 unfoldable pub isUsed : FileType → Bool

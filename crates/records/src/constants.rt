@@ -18,6 +18,8 @@ pub const DIRECTORY_FILE: u32 = 0x1;
 
 pub const NON_DIRECTORY_FILE: u32 = 0x40;
 
+pub const DELETE_ON_CLOSE: u32 = 0x1000;
+
 pub const DISALLOW_EXCLUSIVE: u32 = 0x2_0000;
 
 // attributes

@@ -31,11 +31,12 @@ pub enum FileType {
     Directory,
 }
 
-// A file, with one access mask for each account.
+// A file, with one access mask for each account. `delete_pending` marks one that goes with its last open.
 pub struct File {
     pub file_type: FileType,
     pub attributes: u32,
     pub masks: [u32; ACCOUNTS],
+    pub delete_pending: bool,
 }
 
 // A name of a file in its parent directory. Units past the name are zero; a free slot has no name.
@@ -57,21 +58,23 @@ pub struct ShareCounts {
     pub shared_delete: u16,
 }
 
-// A stream of a file.
+// A stream of a file. A named one may be marked by itself.
 pub struct Stream {
     pub file: FileNo,
     pub stream_type: FileType,
     pub name: [u16; STREAM_NAME_LIMIT],
     pub counts: ShareCounts,
+    pub delete_pending: bool,
 }
 
-// An open. A free slot has handle 0.
+// An open. A free slot has handle 0. `delete_on_close` says that its close marks its file, or its named stream.
 pub struct Open {
     pub handle: Handle,
     pub file: FileNo,
     pub stream: StreamNo,
     pub granted: u32,
     pub share: u32,
+    pub delete_on_close: bool,
 }
 
 // The volume: all but the opens.
@@ -124,6 +127,8 @@ pub enum Status {
     TooManyOpenedFiles,
     InsufficientResources,
     InvalidHandle,
+    CannotDelete,
+    DeletePending,
 }
 
 // How a call ended. An open succeeds with its action and its handle; format, close and set_read_only are done.

@@ -18,6 +18,7 @@ pub const ZERO_FILE: File = File {
     file_type: FileType::Unused,
     attributes: 0,
     masks: [0; ACCOUNTS],
+    delete_pending: false,
 };
 
 pub const ZERO_LINK: Link = Link {
@@ -41,6 +42,7 @@ pub const ZERO_STREAM: Stream = Stream {
     stream_type: FileType::Unused,
     name: [0; STREAM_NAME_LIMIT],
     counts: ZERO_COUNTS,
+    delete_pending: false,
 };
 
 pub const ZERO_OPEN: Open = Open {
@@ -49,6 +51,7 @@ pub const ZERO_OPEN: Open = Open {
     stream: StreamNo(0),
     granted: 0,
     share: 0,
+    delete_on_close: false,
 };
 
 pub fn is_used(t: FileType) -> bool

@@ -29,6 +29,8 @@ pub fn status_number(s: Status) -> u32
         Status::TooManyOpenedFiles => 0xC000_011F,
         Status::InsufficientResources => 0xC000_009A,
         Status::InvalidHandle => 0xC000_0008,
+        Status::CannotDelete => 0xC000_0121,
+        Status::DeletePending => 0xC000_0056,
     }
 }
 

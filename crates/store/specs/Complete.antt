@@ -1,21 +1,21 @@
--- The sharing check, step 10's share-read rule and step 12: whether a pending open is accepted, and what it changes. And
--- what a close does.
+-- The sharing check, step 10's share-read rule and step 12: whether a pending open is accepted, and what it changes.
 -- The object store and the model share this text; each answers the questions about its opens in its own way.
-use Rattle.base.specs.Base.{ℕ, suc, Bool, cond, not, List, [], _∷_, Option, none, some, bitOr, eqb, isEmpty, padded, writes, fileNameLimit, streamNameLimit, lastHandle, shareRead, Terms, Namespace, BareStream, Checked, passed, _>>=_, _>>_, refuseIf, someOr, AccessDenied, SharingViolation, TooManyOpenedFiles, InsufficientResources, InvalidHandle, Reply, Success, CreateAction, Created, FileType, Data, FileNo, LinkNo, StreamNo, Handle, File, Link, Open, Request}
+use Rattle.base.specs.Base.{ℕ, suc, Bool, false, cond, not, List, [], _∷_, Option, none, some, bitOr, eqb, isEmpty, padded, writes, fileNameLimit, streamNameLimit, lastHandle, shareRead, Terms, Namespace, BareStream, Checked, passed, _>>=_, _>>_, refuseIf, AccessDenied, SharingViolation, TooManyOpenedFiles, InsufficientResources, Reply, Success, CreateAction, Created, FileType, Data, FileNo, LinkNo, StreamNo, Handle, File, Link, Open, Request}
 use Rattle.free_slots.specs.Free.{freeFile, freeLink, freeStream}
 use Rattle.tables.specs.Tables.{fileAt}
-use Rattle.store.specs.Prepare.{ReadSharing, asOffered, addedIfAlone, deniedIfAlone, Existing, Creation, newStream, newFile, Pending, existing, creating, prepare}
+use Rattle.store.specs.{Request.deletesOnClose, Prepare.{ReadSharing, asOffered, addedIfAlone, deniedIfAlone, Existing, Creation, newStream, newFile, Pending, existing, creating, prepare}}
 
--- the questions about the opens: does one on the stream conflict with these terms, has the file any open at all, which
--- open has the handle, is a slot free, what is the next handle
+-- the questions about the opens: does one on the stream conflict with these terms, has the file any open at all, has the
+-- stream, which open has the handle, is a slot free, what is the next handle
 pub record View : Type 0 where
   pub conflicts : StreamNo → Terms → Bool
   pub fileOpen : FileNo → Bool
+  pub streamOpen : StreamNo → Bool
   pub openOf : Handle → Option Open
   pub room : Bool
   pub next : ℕ
 
--- what a call changes beside the opens: records written at their numbers
+-- what an open changes beside the opens: records written at their numbers
 pub record Change : Type 0 where
   pub files : List (FileNo × File)
   pub links : List (LinkNo × Link)
@@ -45,6 +45,7 @@ pub record Decision : Type 0 where
   pub placed : Placed
   pub terms : Terms
   pub handle : Handle
+  pub deleteOnClose : Bool
 
 -- the open as it is stored
 abbrev pub newOpen : Decision → Open
@@ -55,6 +56,7 @@ newOpen d =
       stream = d .placed .stream;
       granted = d .terms .granted;
       share = d .terms .share;
+      «delete_on_close» = d .deleteOnClose;
     }
 
 -- what the caller of an accepted open gets
@@ -72,10 +74,17 @@ shareOf deniedIfAlone alone t = refuseIf alone AccessDenied >> passed t
 
 -- the records that an open adds, at their slots
 unfoldable pub withAttributes : ℕ → File → File
-withAttributes attributes f = record { «file_type» = f .«file_type»; attributes = attributes; masks = f .masks }
+withAttributes attributes f =
+    record {
+      «file_type» = f .«file_type»;
+      attributes = attributes;
+      masks = f .masks;
+      «delete_pending» = f .«delete_pending»;
+    }
 
 unfoldable pub streamNew : FileNo → FileType → List ℕ → BareStream
-streamNew f type name = record { file = f; streamType = type; name = padded streamNameLimit name }
+streamNew f type name =
+    record { file = f; streamType = type; name = padded streamNameLimit name; deletePending = false }
 
 unfoldable pub linkNew : FileNo → List ℕ → FileNo → Link
 linkNew dir name f = record { parent = dir; name = padded fileNameLimit name; file = f }
@@ -133,27 +142,24 @@ unfoldable pub placeExisting : Namespace → Existing → Placed
 placeExisting ns e =
     record { change = attributeChange ns (e .file) (e .attributes); file = e .file; stream = e .stream }
 
-unfoldable pub complete : View → Namespace → Pending → Checked Decision
-complete view ns (existing e) = do
+unfoldable pub complete : View → Namespace → Bool → Pending → Checked Decision
+complete view ns deletes (existing e) = do
   refuseIf (view .conflicts (e .stream) (e .terms)) SharingViolation
   terms ← shareOf (e .readSharing) (not (view .fileOpen (e .file))) (e .terms)
   handle ← nextHandle view
-  passed (record { action = e .action; placed = placeExisting ns e; terms = terms; handle = handle })
-complete view ns (creating c terms) = do
+  passed
+      (record {
+        action = e .action;
+        placed = placeExisting ns e;
+        terms = terms;
+        handle = handle;
+        deleteOnClose = deletes;
+      })
+complete view ns deletes (creating c terms) = do
   placed ← place ns c
   handle ← nextHandle view
-  passed (record { action = Created; placed = placed; terms = terms; handle = handle })
+  passed (record { action = Created; placed = placed; terms = terms; handle = handle; deleteOnClose = deletes })
 
 -- the twelve steps
 unfoldable pub decide : View → Namespace → Request → List ℕ → Checked Decision
-decide view ns r units = prepare ns r units >>= complete view ns
-
--- a close: the open that is struck, and what changes beside the opens
-pub record Closing : Type 0 where
-  pub struck : Open
-  pub change : Change
-
-unfoldable pub decideClose : View → Handle → Checked Closing
-decideClose view h = do
-  o ← someOr InvalidHandle (view .openOf h)
-  passed (record { struck = o; change = noChange })
+decide view ns r units = prepare ns r units >>= complete view ns (deletesOnClose r)

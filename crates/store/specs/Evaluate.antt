@@ -17,18 +17,20 @@ use Rattle.stored_names.specs.Evaluate.{computes as storedNames}
 use Rattle.stream_lookup.specs.Evaluate.{computes as streamLookup}
 use Rattle.tables.specs.Evaluate.{computes as tables}
 use Rattle.units.specs.Evaluate.{computes as units}
-use Rattle.store.specs.{Request.{wantsDirectory, wantsFile, badParameters, badAccess, wantsBoth, writesVolume}, Target.{targetNew, wrongType, targetDirectory, targetData, targetFound, targetAt, target}, Prepare.{grant, grantedNew, newType, attributesNew, fileNew, admitFile, readSharingOf, admitExisting, admitOpen, hiddenOrSystem, gained, replacing, replacement, admitReplace, admitStream, admit, prepare}, Complete.{changed, withShareRead, shareOf, withAttributes, streamNew, linkNew, placeFile, placeStreams, place, nextHandle, attributeChange, placeExisting, complete, decide, decideClose}, Store.{hasHandle, storeView, writeStreams, changedVolume, recount, stored, rowsWithOpen, volumeWithOpen, opened, rowsWithoutOpen, volumeWithoutOpen, closed, volumeMarked, whenConsistent, storeOpen, storeClose, storeSetReadOnly}, Model.{Model, freshModel, modelFormat, modelView, modelOpened, modelOpen, modelClosed, modelClose, namespaceMarked, modelSetReadOnly}, Calls.{Call, Run, storeStep, modelStep, run}}
+use Rattle.store.specs.{Request.{wantsDirectory, wantsFile, deletesOnClose, badParameters, badAccess, wantsBoth, writesVolume}, Target.{targetNew, wrongType, targetDirectory, targetData, targetFound, targetAt, target}, Prepare.{mayGo, grant, grantedNew, newType, attributesNew, fileNew, admitFile, readSharingOf, admitExisting, admitOpen, hiddenOrSystem, gained, replacing, replacement, admitReplace, admitStream, admit, prepare}, Complete.{changed, withShareRead, shareOf, withAttributes, streamNew, linkNew, placeFile, placeStreams, place, nextHandle, attributeChange, placeExisting, complete, decide}, Close.{ofNamedStream, marksFile, marksStream, removesFile, removesStream, closeEffect, cleared, markedFile, filesAfter, linksAfter, markedBare, streamsAfter, namespaceAfter, decideClose}, Store.{hasHandle, storeView, writeStreams, changedVolume, recount, stored, rowsWithOpen, volumeWithOpen, opened, rowsWithoutOpen, volumeWithoutOpen, struck, markedStream, volumeAfter, settled, closed, volumeMarked, whenConsistent, storeOpen, storeClose, storeSetReadOnly}, Model.{Model, freshModel, modelFormat, modelView, modelOpened, modelOpen, modelStruck, modelSettled, modelClosed, modelClose, namespaceMarked, modelSetReadOnly}, Calls.{Call, Run, storeStep, modelStep, run}}
 
 unfoldable pub computes : Unit {0}
 unfolding bits lists records tables openTable freeSlots units names storedNames components paths lookup streamLookup
-    access sharing consistency format wantsDirectory wantsFile badParameters badAccess wantsBoth writesVolume
-    targetNew wrongType targetDirectory targetData targetFound targetAt target grant grantedNew newType
+    access sharing consistency format wantsDirectory wantsFile deletesOnClose badParameters badAccess wantsBoth writesVolume
+    targetNew wrongType targetDirectory targetData targetFound targetAt target mayGo grant grantedNew newType
     attributesNew fileNew admitFile readSharingOf admitExisting admitOpen hiddenOrSystem gained replacing replacement admitReplace
     admitStream admit prepare changed withShareRead shareOf withAttributes streamNew linkNew placeFile placeStreams
-    place nextHandle attributeChange placeExisting complete decide decideClose hasHandle storeView writeStreams
-    changedVolume recount stored rowsWithOpen volumeWithOpen opened rowsWithoutOpen volumeWithoutOpen closed
-    volumeMarked whenConsistent storeOpen storeClose storeSetReadOnly freshModel modelFormat modelView modelOpened
-    modelOpen modelClosed modelClose namespaceMarked modelSetReadOnly storeStep modelStep run
+    place nextHandle attributeChange placeExisting complete decide ofNamedStream marksFile marksStream
+    removesFile removesStream closeEffect cleared markedFile filesAfter linksAfter markedBare streamsAfter namespaceAfter
+    decideClose hasHandle storeView writeStreams
+    changedVolume recount stored rowsWithOpen volumeWithOpen opened rowsWithoutOpen volumeWithoutOpen struck
+    markedStream volumeAfter settled closed volumeMarked whenConsistent storeOpen storeClose storeSetReadOnly freshModel modelFormat modelView modelOpened
+    modelOpen modelStruck modelSettled modelClosed modelClose namespaceMarked modelSetReadOnly storeStep modelStep run
 computes = tt
 
 unfoldable pub storeRun : List ℕ → Bool → List Call → Run Tables

@@ -3,6 +3,7 @@ pub mod Request
 pub mod Target
 pub mod Prepare
 pub mod Complete
+pub mod Close
 pub mod Store
 pub mod Model
 pub mod Calls

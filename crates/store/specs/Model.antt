@@ -2,9 +2,9 @@
 -- stand for the opens table, and sharing goes by the pair rule with each entry on the stream.
 use Rattle.base.specs.Base.{ℕ, suc, Bool, not, List, [], _∷_, ltb, length, find, keep, openSlots, Namespace, namespace, passed, _>>=_, _>>_, Step, done, concluded, Handle, Open, Request}
 use Rattle.format.specs.Format.{freshVolume, checkedMasks}
-use Rattle.open_table.specs.Rows.{anyOnFile}
 use Rattle.sharing.specs.Sharing.{anyConflict}
-use Rattle.store.specs.{Complete.{View, Decision, newOpen, openReply, changed, decide, Closing, decideClose}, Store.hasHandle}
+use Rattle.tables.specs.Tables.{anyOnFile, anyOnStream}
+use Rattle.store.specs.{Complete.{View, Decision, newOpen, openReply, changed, decide}, Close.{closeEffect, namespaceAfter, decideClose}, Store.hasHandle}
 
 pub record Model : Type 0 where
   pub namespace : Namespace
@@ -23,6 +23,7 @@ modelView m =
     record {
       conflicts = λ s terms. anyConflict s terms (m .entries);
       fileOpen = λ f. anyOnFile f (m .entries);
+      streamOpen = λ s. anyOnStream s (m .entries);
       openOf = λ h. find (hasHandle h) (m .entries);
       room = ltb (length (m .entries)) openSlots;
       next = suc (m .count);
@@ -44,17 +45,27 @@ unfoldable pub modelOpen : Model → Request → List ℕ → Step Model
 modelOpen m r units =
     concluded m (decide (modelView m) (m .namespace) r units >>= (λ d. passed (modelOpened m d)))
 
-unfoldable pub modelClosed : Model → Closing → Step Model
-modelClosed m c =
-    done
-    (record {
-      namespace = changed (c .change) (m .namespace);
+unfoldable pub modelStruck : Model → Open → Model
+modelStruck m o =
+    record {
+      namespace = m .namespace;
       count = m .count;
-      entries = keep (λ o. not (hasHandle (c .struck .handle) o)) (m .entries);
-    })
+      entries = keep (λ q. not (hasHandle (o .handle) q)) (m .entries);
+    }
+
+unfoldable pub modelSettled : Model → Open → Model
+modelSettled m o =
+    record {
+      namespace = namespaceAfter (closeEffect (modelView m) (m .namespace) o) (m .namespace);
+      count = m .count;
+      entries = m .entries;
+    }
+
+unfoldable pub modelClosed : Model → Open → Step Model
+modelClosed m o = done (modelSettled (modelStruck m o) o)
 
 unfoldable pub modelClose : Model → Handle → Step Model
-modelClose m h = concluded m (decideClose (modelView m) h >>= (λ c. passed (modelClosed m c)))
+modelClose m h = concluded m (decideClose (modelView m) h >>= (λ o. passed (modelClosed m o)))
 
 unfoldable pub namespaceMarked : Bool → Namespace → Namespace
 namespaceMarked readOnly ns =

@@ -1,10 +1,10 @@
 -- Step 9 and the access part of steps 10 and 11: what an open would do, once its target is found and before its sharing is
 -- checked.
-use Rattle.base.specs.Base.{ℕ, Bool, cond, not, _&&_, _||_, List, [], _∷_, Option, none, some, bitAnd, bitOr, eqb, within, has, without, isEmpty, oneOf, supersede, openOnly, openIf, disallowExclusive, hidden, system, directory, archive, temporary, notContentIndexed, writeData, addFile, addSubdirectory, delete, allAccess, fileGenericWrite, maximumAllowed, shareRead, maskOf, Terms, Namespace, Checked, passed, _>>=_, _>>_, refuseIf, InvalidParameter, AccessDenied, MediaWriteProtected, CreateAction, Superseded, Opened, Overwritten, FileType, Data, Directory, FileNo, StreamNo, File, Request}
+use Rattle.base.specs.Base.{ℕ, Bool, false, cond, not, _&&_, _||_, List, [], _∷_, Option, none, some, bitAnd, bitOr, eqb, within, has, without, isEmpty, oneOf, supersede, openOnly, openIf, disallowExclusive, readOnly, hidden, system, directory, archive, temporary, notContentIndexed, writeData, addFile, addSubdirectory, delete, allAccess, fileGenericWrite, maximumAllowed, shareRead, maskOf, Terms, Namespace, Checked, passed, _>>=_, _>>_, refuseIf, InvalidParameter, AccessDenied, MediaWriteProtected, CannotDelete, CreateAction, Superseded, Opened, Overwritten, FileType, Data, Directory, FileNo, StreamNo, File, Request}
 use Rattle.access.specs.Access.{accessRule, checkedAccess}
 use Rattle.paths.specs.Paths.{Leaf}
 use Rattle.tables.specs.Tables.{fileAt}
-use Rattle.store.specs.{Request.wantsDirectory, Target.{Target, existingDirectory, existingStream, missingStream, missingFile, target}}
+use Rattle.store.specs.{Request.{wantsDirectory, deletesOnClose}, Target.{Target, existingDirectory, existingStream, missingStream, missingFile, target}}
 
 -- what step 10 does to a directory's open when the directory has no open at all
 pub data ReadSharing : Type 0 where
@@ -31,10 +31,15 @@ pub data Pending : Type 0 where
   existing : Existing → Pending
   creating : Creation → Terms → Pending
 
--- the access rule on a file, for the request's account
+-- the access rule on a file, for the request's account; then, for an open that deletes on close, that the file may go:
+-- not the root, and not one that is read-only
+unfoldable pub mayGo : Namespace → FileNo → Bool
+mayGo ns f = not (eqb (f .0) 0 || has (fileAt (ns .files) f .attributes) readOnly)
+
 unfoldable pub grant : Namespace → Request → FileNo → ℕ → Checked Terms
 grant ns r f access = do
   granted ← checkedAccess (accessRule (fileAt (ns .files) f) (r .account) access)
+  refuseIf (deletesOnClose r && not (mayGo ns f)) CannotDelete
   passed (record { granted = granted; share = r .share })
 
 -- step 9: a new file's granted access and attributes
@@ -51,13 +56,20 @@ attributesNew r parent =
     (cond (wantsDirectory r) directory archive)
 
 unfoldable pub fileNew : Request → File → File
-fileNew r parent = record { «file_type» = newType r; attributes = attributesNew r parent; masks = parent .masks }
+fileNew r parent =
+    record {
+      «file_type» = newType r;
+      attributes = attributesNew r parent;
+      masks = parent .masks;
+      «delete_pending» = false;
+    }
 
 unfoldable pub admitFile : Namespace → Request → FileNo → Leaf → Checked Pending
 admitFile ns r dir leaf =
     let parent = fileAt (ns .files) dir in
     do
       refuseIf (wantsDirectory r && has (r .attributes) temporary) InvalidParameter
+      refuseIf (deletesOnClose r && has (r .attributes) readOnly) CannotDelete
       refuseIf (not (has (maskOf parent (r .account)) (cond (wantsDirectory r) addSubdirectory addFile))) AccessDenied
       passed
           (creating (newFile dir leaf (fileNew r parent)) (record { granted = grantedNew (r .access); share = r .share }))

@@ -1,12 +1,12 @@
 -- The object store (the paper's desk): open, close and set_read_only on the tables. A refusal leaves every table as it
 -- was.
-use Rattle.base.specs.Base.{ℕ, suc, Bool, not, _&&_, List, [], _∷_, Option, none, some, eqb, set, any, find, first, writes, zeroOpen, openUsed, BareStream, bare, withCounts, namespace, Checked, passed, _>>=_, _>>_, refuseIf, Tables, Step, done, concluded, FileCorruptError, StreamNo, Handle, ShareCounts, Stream, Open, Volume, Request}
+use Rattle.base.specs.Base.{ℕ, suc, Bool, not, _&&_, List, [], _∷_, Option, none, some, eqb, set, any, find, first, writes, zeroStream, zeroOpen, openUsed, BareStream, bare, withCounts, namespace, Checked, passed, _>>=_, _>>_, refuseIf, Tables, Step, done, concluded, FileCorruptError, StreamNo, Handle, ShareCounts, Stream, Open, Volume, Request}
 use Rattle.consistency.specs.Test.{consistent}
-use Rattle.open_table.specs.Rows.{freeRow, fileHasOpen}
+use Rattle.open_table.specs.Rows.{freeRow}
 unfoldable pub use Rattle.open_table.specs.Rows.{hasHandle}
 use Rattle.sharing.specs.Sharing.{shareCheck, withOpen, withoutOpen}
-use Rattle.tables.specs.Tables.{streamAt}
-use Rattle.store.specs.Complete.{View, Change, Decision, newOpen, openReply, decide, Closing, decideClose}
+use Rattle.tables.specs.Tables.{streamAt, fileHasOpen, streamHasOpen}
+use Rattle.store.specs.{Complete.{View, Change, Decision, newOpen, openReply, decide}, Close.{CloseEffect, closeEffect, filesAfter, linksAfter, markedBare, streamsAfter, decideClose}}
 
 -- the tables' answers about the opens: conflicts by the share check
 unfoldable pub storeView : Tables → View
@@ -14,6 +14,7 @@ storeView t =
     record {
       conflicts = λ s terms. shareCheck (streamAt (t .volume .streams) s .counts) terms;
       fileOpen = fileHasOpen (t .opens .rows);
+      streamOpen = streamHasOpen (t .opens .rows);
       openOf = λ h. find (hasHandle h) (t .opens .rows);
       room = any (λ o. not (openUsed o)) (t .opens .rows);
       next = t .volume .«next_handle» .0;
@@ -82,13 +83,36 @@ volumeWithoutOpen o v =
       streams = recount (withoutOpen o) (o .stream) (v .streams);
     }
 
-unfoldable pub closed : Tables → Closing → Step Tables
-closed t c =
-    done
-    (record {
-      volume = changedVolume (c .change) (volumeWithoutOpen (c .struck) (t .volume));
-      opens = record { rows = rowsWithoutOpen (c .struck) (t .opens .rows) };
-    })
+unfoldable pub struck : Tables → Open → Tables
+struck t o =
+    record {
+      volume = volumeWithoutOpen o (t .volume);
+      opens = record { rows = rowsWithoutOpen o (t .opens .rows) };
+    }
+
+-- then what becomes of its file and stream, by the opens that remain. A stream that goes takes its share counts along
+unfoldable pub markedStream : Stream → Stream
+markedStream s = withCounts (markedBare (bare s)) (s .counts)
+
+unfoldable pub volumeAfter : CloseEffect → Volume → Volume
+volumeAfter e v =
+    record {
+      «read_only» = v .«read_only»;
+      «next_handle» = v .«next_handle»;
+      files = filesAfter e (v .files);
+      links = linksAfter e (v .links);
+      streams = streamsAfter bare zeroStream markedStream e (v .streams);
+    }
+
+unfoldable pub settled : Tables → Open → Tables
+settled t o =
+    record {
+      volume = volumeAfter (closeEffect (storeView t) (namespace (t .volume)) o) (t .volume);
+      opens = t .opens;
+    }
+
+unfoldable pub closed : Tables → Open → Step Tables
+closed t o = done (settled (struck t o) o)
 
 -- the read-only mark and nothing else
 unfoldable pub volumeMarked : Bool → Volume → Volume
@@ -111,7 +135,7 @@ storeOpen t r units =
     whenConsistent t (decide (storeView t) (namespace (t .volume)) r units >>= (λ d. passed (opened t d)))
 
 unfoldable pub storeClose : Tables → Handle → Step Tables
-storeClose t h = whenConsistent t (decideClose (storeView t) h >>= (λ c. passed (closed t c)))
+storeClose t h = whenConsistent t (decideClose (storeView t) h >>= (λ o. passed (closed t o)))
 
 -- the paper's switch
 unfoldable pub storeSetReadOnly : Tables → Bool → Step Tables

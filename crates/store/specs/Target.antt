@@ -1,5 +1,5 @@
 -- Steps 1 to 8, and the stream of steps 10 and 11: what an open leads to, found without looking at the opens.
-use Rattle.base.specs.Base.{ℕ, Bool, true, false, cond, not, _&&_, _||_, List, [], _∷_, Option, none, some, eqb, oneOf, openOnly, create, openIf, overwrite, isDirectory, Namespace, Checked, passed, _>>=_, _>>_, refuseIf, someOr, FileCorruptError, InvalidParameter, AccessDenied, MediaWriteProtected, ObjectNameNotFound, ObjectNameCollision, FileIsADirectory, NotADirectory, FileNo, StreamNo, Request}
+use Rattle.base.specs.Base.{ℕ, Bool, true, false, cond, not, _&&_, _||_, List, [], _∷_, Option, none, some, eqb, oneOf, openOnly, create, openIf, overwrite, isDirectory, Namespace, bareAt, Checked, passed, _>>=_, _>>_, refuseIf, someOr, FileCorruptError, InvalidParameter, AccessDenied, MediaWriteProtected, ObjectNameNotFound, ObjectNameCollision, FileIsADirectory, NotADirectory, DeletePending, FileNo, StreamNo, Request}
 use Rattle.lookup.specs.Lookup.{Resolved, Place, found, missing, locate}
 use Rattle.paths.specs.Paths.{Leaf, parsePath}
 use Rattle.stream_lookup.specs.StreamLookup.{findStream}
@@ -40,11 +40,12 @@ targetDirectory ns r at = do
   passed (existingDirectory at stream)
 
 -- step 11: a found data file, by the stream that was searched for
-unfoldable pub targetData : Request → Resolved → Leaf → Option StreamNo → Checked Target
-targetData r at leaf (some s) = do
+unfoldable pub targetData : Namespace → Request → Resolved → Leaf → Option StreamNo → Checked Target
+targetData ns r at leaf (some s) = do
+  refuseIf (bareAt (ns .streams) s .deletePending) DeletePending
   refuseIf (eqb (r .disposition) create) ObjectNameCollision
   passed (existingStream at leaf s)
-targetData r at leaf none = do
+targetData ns r at leaf none = do
   refuseIf (oneOf (r .disposition) (openOnly ∷ overwrite ∷ [])) ObjectNameNotFound
   passed (missingStream at leaf)
 
@@ -53,7 +54,7 @@ targetFound ns r leaf at =
     let isDir = isDirectory (fileAt (ns .files) (at .file) .«file_type») in
     do
       wrongType r leaf isDir
-      cond isDir (targetDirectory ns r at) (targetData r at leaf (findStream ns (r .fold) (at .file) (leaf .stream)))
+      cond isDir (targetDirectory ns r at) (targetData ns r at leaf (findStream ns (r .fold) (at .file) (leaf .stream)))
 
 unfoldable pub targetAt : Namespace → Request → Leaf → Place → Checked Target
 targetAt ns r leaf (found at) = targetFound ns r leaf at

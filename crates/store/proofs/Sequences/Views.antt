@@ -2,9 +2,8 @@
 -- steps, and a close, are decided alike.
 use Rattle.base.{specs.Base.{_<_, suc, ℕ, Permutation, any, Checked, _>>=_, _>>_, passed, refuseIf, refused, someOr, Namespace, namespace, lastHandle, openSlots, openUsed, Tables, Terms, Created, Handle, Open, Request, InsufficientResources, InvalidHandle, SharingViolation, TooManyOpenedFiles, StreamNo, eqb, ltb, length, Bool, not, List, Option, _≡_}, proofs.Laws.{count-short, length-keep, find-keep, perm-find, perm-any, perm-length, Ends, went, _∙_, ap, ap₂, refl, subst, sym}}
 use Rattle.consistency.specs.Consistent.{Consistent}
-use Rattle.open_table.specs.Rows.{anyOnFile}
 use Rattle.sharing.{proofs.{Check.share-check-right, Counts.counts-perm}, specs.Sharing.{anyConflict, shareCheck}}
-use Rattle.tables.specs.Tables.{streamAt, live}
+use Rattle.tables.specs.Tables.{streamAt, live, anyOnFile, anyOnStream}
 use Rattle.store.proofs.Sequences.{Facts.{Early, ExistingFits, PendingFits, namespace-of}, Opens.{Close.{handle-used, one-handle, struck}, Names.used-below}, Prepared.prepare-ends}
 use Rattle.store.specs.{Complete.{View, complete, decide, decideClose, noChange, place, placeExisting, shareOf, nextHandle}, Model.{Model, modelView}, Prepare.{Existing, Pending, creating, existing, prepare}, Store.{hasHandle, storeView}}
 

@@ -75,7 +75,7 @@ tablesOf m = m .namespace
 -- a file at its number, with attributes and masks
 unfoldable pub fileOf : ℕ → ℕ → List ℕ → FileNo × File
 fileOf n attributes masks =
-    (record { 0 = n }, record { «file_type» = typeBy attributes; attributes = attributes; masks = masks })
+    (record { 0 = n }, record { «file_type» = typeBy attributes; attributes = attributes; masks = masks; «delete_pending» = false })
 
 unfoldable pub withFile : FileNo × File → Model → Model
 withFile f m =
@@ -130,7 +130,10 @@ storedUnits name = name ++ replicate (32 - length name) 0
 
 unfoldable pub filesMade : List ℕ → List Made → List File
 filesMade masks ms =
-    map (λ m. record { «file_type» = typeBy (m .attributes); attributes = m .attributes; masks = masks }) ms
+    map
+    (λ m.
+    record { «file_type» = typeBy (m .attributes); attributes = m .attributes; masks = masks; «delete_pending» = false })
+    ms
 
 unfoldable pub linksMade : ℕ → List Made → List Link
 linksMade n [] = []
@@ -139,7 +142,8 @@ linksMade n (m ∷ ms) =
 
 -- a data stream of a file, a directory's stream
 abbrev pub streamAs : FileType → ℕ → List ℕ → BareStream
-streamAs type file name = record { file = record { 0 = file }; streamType = type; name = storedUnits name }
+streamAs type file name =
+    record { file = record { 0 = file }; streamType = type; name = storedUnits name; deletePending = false }
 
 abbrev pub stream : ℕ → String → BareStream
 stream file name = streamAs Data file (text name)
@@ -156,7 +160,12 @@ entry handle file stream granted share =
       stream = record { 0 = stream };
       granted = granted;
       share = share;
+      «delete_on_close» = false;
     }
+
+-- a mark as a number
+unfoldable pub markRow : Bool → ℕ
+markRow b = cond b 1 0
 
 -- what is observed of the model, as rows of numbers: its mark and count, the used slots of its tables, each with its
 -- number, and its entries
@@ -171,16 +180,17 @@ typeRow Data = 1
 typeRow Directory = 2
 
 unfoldable pub fileRow : File → List ℕ
-fileRow f = 0 ∷ typeRow (f .«file_type») ∷ f .attributes ∷ f .masks
+fileRow f = 0 ∷ typeRow (f .«file_type») ∷ f .attributes ∷ markRow (f .«delete_pending») ∷ f .masks
 
 unfoldable pub linkRow : Link → List ℕ
 linkRow l = 1 ∷ l .parent .0 ∷ l .file .0 ∷ l .name
 
 unfoldable pub streamRow : BareStream → List ℕ
-streamRow s = 2 ∷ s .file .0 ∷ typeRow (s .streamType) ∷ s .name
+streamRow s = 2 ∷ s .file .0 ∷ typeRow (s .streamType) ∷ markRow (s .deletePending) ∷ s .name
 
 unfoldable pub entryRow : Open → List ℕ
-entryRow o = 3 ∷ o .handle .0 ∷ o .file .0 ∷ o .stream .0 ∷ o .granted ∷ o .share ∷ []
+entryRow o =
+    3 ∷ o .handle .0 ∷ o .file .0 ∷ o .stream .0 ∷ o .granted ∷ o .share ∷ markRow (o .«delete_on_close») ∷ []
 
 unfoldable pub kept : Model → List (List ℕ)
 kept m =
@@ -194,7 +204,7 @@ kept m =
 -- what is kept where these files were made, with these streams after the root's and these entries, newest first
 unfoldable pub keeps : List ℕ → Bool → ℕ → List Made → List BareStream → List Open → List (List ℕ)
 keeps masks readOnly count ms streams entries =
-    let root : File = record { «file_type» = Directory; attributes = 0x10; masks = masks } in
+    let root : File = record { «file_type» = Directory; attributes = 0x10; masks = masks; «delete_pending» = false } in
     (cond readOnly 1 0 ∷ count ∷ [])
     ∷ rows (λ f. true) fileRow 0 (root ∷ filesMade masks ms)
     ++ rows (λ l. true) linkRow 0 (linksMade 1 ms)

@@ -8,8 +8,8 @@ use Rattle.store.specs.StepCases.{Form.{Case, Start, refuses, replies, b
 unfoldable pub tables : Bool → ℕ → ℕ → ℕ → ℕ → Namespace
 tables readOnly mask files links streams =
     let masks = replicate 8 mask in
-    let file : File = record { «file_type» = Directory; attributes = 0x10; masks = masks } in
-    let last : File = record { «file_type» = Data; attributes = 0x20; masks = masks } in
+    let file : File = record { «file_type» = Directory; attributes = 0x10; masks = masks; «delete_pending» = false } in
+    let last : File = record { «file_type» = Data; attributes = 0x20; masks = masks; «delete_pending» = false } in
     let toLast : Link = record { parent = record { 0 = 0 }; name = storedUnits (text "f"); file = record { 0 = files - 1 } } in
     let link : Link = record { parent = record { 0 = 1 }; name = storedUnits (text "x"); file = record { 0 = 1 } } in
     record {
@@ -71,10 +71,10 @@ resourceCases =
 
 -- tables with free slots between the used ones: `x` is file 2, its link 1, its stream 3; the root's stream is 1
 abbrev pub dir : File
-dir = record { «file_type» = Directory; attributes = 0x10; masks = replicate 8 0x1F01FF }
+dir = record { «file_type» = Directory; attributes = 0x10; masks = replicate 8 0x1F01FF; «delete_pending» = false }
 
 abbrev pub file : File
-file = record { «file_type» = Data; attributes = 0x20; masks = replicate 8 0x1F01FF }
+file = record { «file_type» = Data; attributes = 0x20; masks = replicate 8 0x1F01FF; «delete_pending» = false }
 
 abbrev pub linkTo : ℕ → String → Link
 linkTo n name = record { parent = record { 0 = 0 }; name = storedUnits (text name); file = record { 0 = n } }

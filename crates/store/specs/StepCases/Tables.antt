@@ -47,14 +47,20 @@ lengths files masks links linkName streams streamName opens =
     }
 
 abbrev pub zeroFileOf : ℕ → File
-zeroFileOf masks = record { «file_type» = Unused; attributes = 0; masks = replicate masks 0 }
+zeroFileOf masks = record { «file_type» = Unused; attributes = 0; masks = replicate masks 0; «delete_pending» = false }
 
 abbrev pub zeroLinkOf : ℕ → Link
 zeroLinkOf name = record { parent = record { 0 = 0 }; name = replicate name 0; file = record { 0 = 0 } }
 
 abbrev pub zeroStreamOf : ℕ → Stream
 zeroStreamOf name =
-    record { file = record { 0 = 0 }; «stream_type» = Unused; name = replicate name 0; counts = zeroCounts }
+    record {
+      file = record { 0 = 0 };
+      «stream_type» = Unused;
+      name = replicate name 0;
+      counts = zeroCounts;
+      «delete_pending» = false;
+    }
 
 unfoldable pub unused : Lengths → Tables
 unused n =
@@ -79,7 +85,8 @@ formatted masks readOnly =
             «read_only» = readOnly;
             «next_handle» = record { 0 = 1 };
             files =
-                record { «file_type» = Directory; attributes = 0x10; masks = masks } ∷ replicate 127 (zeroFileOf 8);
+                record { «file_type» = Directory; attributes = 0x10; masks = masks; «delete_pending» = false }
+                ∷ replicate 127 (zeroFileOf 8);
             links = replicate 192 (zeroLinkOf 32);
             streams =
                 record {
@@ -87,6 +94,7 @@ formatted masks readOnly =
                   «stream_type» = Directory;
                   name = replicate 32 0;
                   counts = zeroCounts;
+                  «delete_pending» = false;
                 }
                 ∷ replicate 255 (zeroStreamOf 32);
           };
