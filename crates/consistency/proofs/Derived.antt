@@ -46,7 +46,14 @@ stream-slots {v} {t} c =
         let s : StreamNo = record { 0 = i } in
         let free : bareUsed (bareAt (map bare (v .streams)) s) ≡ false = ap bareUsed (bare-at (v .streams) s ∙ e) in
         let counts = c .counts s b ∙ counts-none s (live (t .rows)) (free-unopened (c .opens) s free) in
-        λ j. record { file = e j .file; «stream_type» = e j .streamType; name = e j .name; counts = counts j }
+        λ j.
+        record {
+          file = e j .file;
+          «stream_type» = e j .streamType;
+          name = e j .name;
+          counts = counts j;
+          «delete_pending» = e j .deletePending;
+        }
 
     past : (i : ℕ) → length (v .streams) ≤ i → getD (v .streams) i zeroStream ≡ zeroStream
     past i b = List·getD-eq-default (v .streams) zeroStream {n = i} b

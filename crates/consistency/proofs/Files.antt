@@ -1,5 +1,5 @@
 -- The files table: the test answers true exactly when the statements hold.
-use Rattle.base.{specs.Base.{_≡_, true, List, _↔_, same, zeroFile, isUsed, fileUsed, File}, proofs.Laws.{refl, ap, and-iff, eqb-iff, beq-iff, same-iff}}
+use Rattle.base.{specs.Base.{_≡_, true, List, _↔_, same, zeroFile, isUsed, fileUsed, File}, proofs.Laws.{refl, ap, and-iff, not-iff, eqb-iff, beq-iff, same-iff}}
 use Rattle.consistency.proofs.{Slots.{Decides, slots-iff}, Numbered.unused}
 use Rattle.consistency.specs.{Good.{GoodFile, goodFile, isZeroFile}, Consistent.FilesConsistent, Test.filesTest}
 
@@ -19,8 +19,8 @@ file-decides =
           λ f u. (
             λ h.
                 let t = unused (f .«file_type») u in
-                let p = simp (isZeroFile, and-iff, eqb-iff, same-iff) at h in
-                λ i. record { «file_type» = t i; attributes = p .0 i; masks = p .1 i },
+                let p = simp (isZeroFile, and-iff, not-iff, eqb-iff, same-iff) at h in
+                λ i. record { «file_type» = t i; attributes = p .0 .0 i; masks = p .0 .1 i; «delete_pending» = p .1 i },
             λ e. ap isZeroFile e,
           );
     }

@@ -7,5 +7,6 @@ pub mod Links
 pub mod Streams
 pub mod Opens
 pub mod Counts
+pub mod Marks
 pub mod Equivalence
 pub mod Derived

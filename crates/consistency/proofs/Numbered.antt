@@ -1,5 +1,5 @@
 -- Numbers that are types of their own, the types of files, and tests of every file with its number.
-use Rattle.base.{specs.Base.{ℕ, _<_, _≡_, Bool, true, false, not, _&&_, List, _↔_, _≢_, eqb, length, allFrom, same, isUsed, isDirectory, zeroFile, fileUsed, FileType, Unused, Data, Directory, FileNo, StreamNo, Handle, File}, proofs.Laws.{refl, false≢true, true≢false, eqb-true, eq-eqb, fails-iff, exclude-iff, same-iff, numbered-at, numbered-of}}
+use Rattle.base.{specs.Base.{ℕ, _<_, _≡_, Bool, true, false, not, _&&_, List, _↔_, _≢_, eqb, length, getD, allFrom, same, isUsed, isDirectory, zeroFile, fileUsed, FileType, Unused, Data, Directory, FileNo, StreamNo, Handle, File}, proofs.Laws.{refl, false≢true, true≢false, eqb-true, eq-eqb, fails-iff, exclude-iff, same-iff, numbered-at, numbered-of}}
 use Rattle.lists.proofs.Places.{used-below}
 use Rattle.tables.specs.Tables.{fileAt}
 use Rattle.consistency.specs.Relations.{typeAt}
@@ -60,13 +60,22 @@ pub directory-file : (fs : List File) (f : FileNo) → isDirectory (typeAt fs f)
 unfolding fileUsed
 directory-file fs f d = directory-used (typeAt fs f) d
 
--- a test of every file with its number, which counts only for a used one
+-- a test of every record with its number, which counts only where another passes
+module _ {A : Type 0} (used : A → Bool) (zero : A) (free : used zero ≡ false) (p : ℕ → A → Bool) (P : ℕ → A → Type 0)
+    (decides : (n : ℕ) (x : A) → (p n x ≡ true) ↔ (used x ≡ true → P n x)) (xs : List A)
+  where
+    pub each-iff : (allFrom p 0 xs ≡ true) ↔ ((i : ℕ) → used (getD xs i zero) ≡ true → P i (getD xs i zero))
+    each-iff = (
+      λ h i u. decides i (getD xs i zero) .0 (numbered-at p zero xs h i (used-below used zero free xs i u)) u,
+      λ h. numbered-of p zero xs (λ i b. decides i (getD xs i zero) .1 (h i)),
+    )
+
+-- of every used file
 module _ (p : ℕ → File → Bool) (P : FileNo → File → Type 0)
     (decides : (n : FileNo) (f : File) → (p (n .0) f ≡ true) ↔ (fileUsed f ≡ true → P n f)) (fs : List File)
   where
     pub files-each : (allFrom p 0 fs ≡ true) ↔ ((f : FileNo) → fileUsed (fileAt fs f) ≡ true → P f (fileAt fs f))
-    unfolding fileAt
-    files-each = (
-      λ h f u. decides f (fileAt fs f) .0 (numbered-at p zeroFile fs h (f .0) (file-in fs f u)) u,
-      λ h. numbered-of p zeroFile fs (λ i b. let n : FileNo = record { 0 = i } in decides n (fileAt fs n) .1 (h n)),
-    )
+    unfolding fileAt fileUsed isUsed
+    files-each =
+        let e = each-iff fileUsed zeroFile refl p (λ n. P (record { 0 = n })) (λ n. decides (record { 0 = n })) fs in
+        (λ h f. e .0 h (f .0), λ h. e .1 (λ i. h (record { 0 = i })))

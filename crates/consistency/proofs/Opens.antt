@@ -1,8 +1,15 @@
 -- The table of opens, and that no two conflict: the tests answer true exactly when the statements hold.
-use Rattle.base.{specs.Base.{ℕ, _≡_, true, List, _↔_, eqb, keep, pairs, root, zeroOpen, openUsed, BareStream, bareAt, Open}, proofs.Laws.{refl, ap, eqb-true, eqb-false, ne-eqb, not-true, not-false, and-iff, not-iff, not-is, eqb-iff, leb-iff, fails-iff, exclude-iff}}
+use Rattle.base.{specs.Base.{ℕ, _≡_, true, false, _&&_, _≢_, List, _↔_, eqb, keep, pairs, root, zeroOpen, openUsed, BareStream, bareAt, Open}, proofs.Laws.{refl, ap, eqb-true, eqb-false, ne-eqb, not-true, not-false, and-iff, not-iff, not-is, eqb-iff, leb-iff, fails-iff, exclude-iff}}
 use Rattle.tables.specs.Tables.{live}
-use Rattle.consistency.proofs.{Slots.{Decides, slots-iff, two-iff}, Numbered.{same-file, same-stream, same-handle, stream-iff, handle-iff}}
+use Rattle.consistency.proofs.{Slots.{Decides, slots-iff, two-iff}, Numbered.{same-file, same-stream, same-handle, stream-iff, handle-iff, file-iff}}
 use Rattle.consistency.specs.{Slots.EveryTwo, Good.{goodOpen, isZeroOpen, handlesDiffer, opensAgree, HandlesDiffer, OpensAgree}, Consistent.{GoodOpenOf, OpensConsistent, NoConflicts}, Test.{goodOpenOf, opensTest, conflictsTest}}
+
+-- the root is not held by a delete-on-close open
+root-iff : (o : Open)
+    → ((o .«delete_on_close» && eqb (o .file .0) 0) ≡ false) ↔ (o .«delete_on_close» ≡ true → o .file ≢ root)
+root-iff o =
+    let e = exclude-iff {P = o .«delete_on_close» ≡ true} (λ h. h, λ h. h) (fails-iff (file-iff (o .file) root)) in
+    (λ h. e .0 (not-is h), λ h. not-true _ (e .1 h))
 
 pub open-decides : (ss : List BareStream) (next : ℕ) → Decides openUsed (goodOpenOf ss next) isZeroOpen zeroOpen (GoodOpenOf ss next)
 unfolding openUsed goodOpen isZeroOpen
@@ -14,29 +21,38 @@ open-decides ss next =
             λ h.
                 let p = simp (goodOpen, and-iff, eqb-iff, leb-iff, not-iff) at h in
                 record {
-                  namesUsedStream = p .0 .0 .0 .0 .0;
-                  namesItsFile = same-file (o .file) (bareAt ss (o .stream) .file) (p .0 .0 .0 .0 .1);
+                  namesUsedStream = p .0 .0 .0 .0 .0 .0;
+                  namesItsFile = same-file (o .file) (bareAt ss (o .stream) .file) (p .0 .0 .0 .0 .0 .1);
                   terms =
                       record {
-                        grantedNonzero = eqb-false (o .granted) 0 (p .0 .0 .0 .1);
-                        grantedWithin = p .0 .0 .1;
-                        shareAtMost = p .0 .1;
+                        grantedNonzero = eqb-false (o .granted) 0 (p .0 .0 .0 .0 .1);
+                        grantedWithin = p .0 .0 .0 .1;
+                        shareAtMost = p .0 .0 .1;
                       };
-                  handleBelow = p .1;
+                  handleBelow = p .0 .1;
+                  rootStays = root-iff o .0 (p .1);
                 },
             λ g.
                 let t = g .terms in
                 simp (goodOpen, and-iff, eqb-iff, leb-iff, not-iff)
-                (((((g .namesUsedStream, λ i. g .namesItsFile i .0), ne-eqb (o .granted) 0 (t .grantedNonzero)), t .grantedWithin), t .shareAtMost), g .handleBelow),
+                ((((((g .namesUsedStream, λ i. g .namesItsFile i .0), ne-eqb (o .granted) 0 (t .grantedNonzero)), t .grantedWithin), t .shareAtMost), g .handleBelow), root-iff o .1 (g .rootStays)),
           );
       decidesZero =
           λ o u. (
             λ h.
                 let n = same-handle (o .handle) (zeroOpen .handle) (eqb-true (o .handle .0) 0 (not-false (eqb (o .handle .0) 0) u)) in
-                let p = simp (isZeroOpen, and-iff, eqb-iff) at h in
-                let f = same-file (o .file) root (p .0 .0 .0) in
-                let s = same-stream (o .stream) (zeroOpen .stream) (p .0 .0 .1) in
-                λ i. record { handle = n i; file = f i; stream = s i; granted = p .0 .1 i; share = p .1 i },
+                let p = simp (isZeroOpen, and-iff, not-iff, eqb-iff) at h in
+                let f = same-file (o .file) root (p .0 .0 .0 .0) in
+                let s = same-stream (o .stream) (zeroOpen .stream) (p .0 .0 .0 .1) in
+                λ i.
+                record {
+                  handle = n i;
+                  file = f i;
+                  stream = s i;
+                  granted = p .0 .0 .1 i;
+                  share = p .0 .1 i;
+                  «delete_on_close» = p .1 i;
+                },
             λ e. ap isZeroOpen e,
           );
     }

@@ -1,10 +1,15 @@
 -- The streams table: the test answers true exactly when the statements hold.
-use Rattle.base.{specs.Base.{_<_, _≡_, true, List, _↔_, length, allFrom, count, keep, pairs, same, root, isUsed, isDirectory, fileUsed, BareStream, zeroBare, bareUsed, bareAt, FileNo, StreamNo, File}, proofs.Laws.{refl, ap, and-iff, eqb-iff, beq-iff, guard-iff, same-iff, count-keep}}
+use Rattle.base.{specs.Base.{_<_, _≡_, true, false, not, _&&_, List, _↔_, length, isEmpty, allFrom, count, keep, pairs, same, root, isUsed, isDirectory, fileUsed, BareStream, zeroBare, bareUsed, bareAt, FileNo, StreamNo, File}, proofs.Laws.{refl, ap, and-iff, not-iff, eqb-iff, beq-iff, exclude-iff, guard-iff, same-iff, count-keep}}
 use Rattle.lists.proofs.Places.{used-below}
 use Rattle.stored_names.specs.StoredNames.{units}
 use Rattle.tables.specs.Tables.{fileAt}
 use Rattle.consistency.proofs.{Slots.{Decides, slots-iff, two-iff}, Relations.{stream-of-iff, unnamed-iff}, Numbered.{same-file, unused, same-type, names-iff, directory-file, files-each}}
 use Rattle.consistency.specs.{Relations.{typeAt, streamOf, unnamedOf}, Slots.EveryTwo, Good.{goodStream, isZeroStream, streamNamesDiffer, StreamNamesDiffer}, Consistent.{GoodStreamOf, StreamsConsistent}, Test.{goodStreamOf, streamsOfFile, streamsTest}}
+
+-- a marked stream is a named one
+named-iff : (s : BareStream)
+    → (not (s .deletePending && isEmpty (units (s .name))) ≡ true) ↔ (s .deletePending ≡ true → isEmpty (units (s .name)) ≡ false)
+named-iff s = exclude-iff (λ h. h, λ h. h) (λ h. h, λ h. h)
 
 pub stream-decides : (fs : List File) → Decides bareUsed (goodStreamOf fs) isZeroStream zeroBare (GoodStreamOf fs)
 unfolding bareUsed isUsed goodStream isZeroStream same
@@ -16,22 +21,23 @@ stream-decides fs =
             λ h.
                 let p = simp (goodStream, and-iff, beq-iff) at h in
                 record {
-                  nameStored = p .0 .0 .0;
-                  nameValid = p .0 .0 .1;
-                  namesUsedFile = p .0 .1;
-                  typeAgrees = same-type (s .streamType) (typeAt fs (s .file)) u (p .0 .1) (p .1);
+                  nameStored = p .0 .0 .0 .0;
+                  nameValid = p .0 .0 .0 .1;
+                  namesUsedFile = p .0 .0 .1;
+                  typeAgrees = same-type (s .streamType) (typeAt fs (s .file)) u (p .0 .0 .1) (p .0 .1);
+                  markedNamed = named-iff s .0 (p .1);
                 },
             λ g.
                 simp (goodStream, and-iff, beq-iff)
-                (((g .nameStored, g .nameValid), g .namesUsedFile), ap isDirectory (g .typeAgrees)),
+                ((((g .nameStored, g .nameValid), g .namesUsedFile), ap isDirectory (g .typeAgrees)), named-iff s .1 (g .markedNamed)),
           );
       decidesZero =
           λ s u. (
             λ h.
                 let t = unused (s .streamType) u in
-                let p = simp (isZeroStream, and-iff, eqb-iff, same-iff) at h in
-                let f = same-file (s .file) root (p .0) in
-                λ i. record { file = f i; streamType = t i; name = p .1 i },
+                let p = simp (isZeroStream, and-iff, not-iff, eqb-iff, same-iff) at h in
+                let f = same-file (s .file) root (p .0 .0) in
+                λ i. record { file = f i; streamType = t i; name = p .0 .1 i; deletePending = p .1 i },
             λ e. ap isZeroStream e,
           );
     }
