@@ -1,7 +1,7 @@
 -- The facts that pass between the parts of the proof: what a consistent namespace is, what a pending open may rely on, and
 -- what its placing leaves.
-use Rattle.base.specs.Base.{suc, ℕ, any, Refusal, BareStream, Namespace, bareAt, bareUsed, namespace, statusNumber, fileNameLimit, streamNameLimit, fileUsed, isData, isDirectory, File, FileNo, Open, OpenTable, FileCorruptError, SharingViolation, Status, StreamNo, Volume, eqb, length, Bool, false, true, List, [], some, _≡_}
-use Rattle.consistency.specs.{Consistent.{Consistent, FilesConsistent, GoodOpenOf, LinksConsistent, StreamsConsistent}, Good.{GoodAttributes, GoodFile, GoodTerms}}
+use Rattle.base.specs.Base.{suc, ℕ, any, Refusal, BareStream, Namespace, bareAt, bareUsed, namespace, statusNumber, fileNameLimit, streamNameLimit, fileUsed, isData, isDirectory, File, FileNo, Open, OpenTable, FileCorruptError, SharingViolation, Status, StreamNo, Volume, root, eqb, length, Bool, false, true, List, [], some, _≡_, _≢_}
+use Rattle.consistency.specs.{Consistent.{Consistent, FilesConsistent, GoodOpenOf, LinksConsistent, StreamsConsistent, MarksConsistent}, Good.{GoodAttributes, GoodFile, GoodTerms}}
 use Rattle.lookup.specs.Lookup.{linkMatches}
 use Rattle.names.specs.Names.{validFileName, validStreamName}
 use Rattle.paths.specs.Paths.{Leaf}
@@ -14,6 +14,7 @@ pub record NamespaceConsistent (ns : Namespace) : Type 0 where
   pub files : FilesConsistent (ns .files)
   pub links : LinksConsistent (ns .files) (ns .links)
   pub streams : StreamsConsistent (ns .files) (ns .streams)
+  pub marks : MarksConsistent (ns .files) (ns .links)
 
 -- attributes that a data file may take
 pub record AttributesFit (ns : Namespace) (f : FileNo) (a : ℕ) : Type 0 where
@@ -30,28 +31,31 @@ pub record StreamFits (ns : Namespace) (f : FileNo) (a : ℕ) (name : List ℕ) 
 -- a file that a directory may gain
 pub record FileFits (ns : Namespace) (dir : FileNo) (leaf : Leaf) (file : File) : Type 0 where
   pub parent : isDirectory (fileAt (ns .files) dir .«file_type») ≡ true
+  pub parentStays : fileAt (ns .files) dir .«delete_pending» ≡ false
   pub nameValid : validFileName fileNameLimit (leaf .file) ≡ true
   pub fold : Bool
   pub nameNew : any (linkMatches fold dir (leaf .file)) (ns .links) ≡ false
   pub streamValid : validStreamName streamNameLimit (leaf .stream) ≡ true
   pub used : fileUsed file ≡ true
   pub good : GoodFile file
+  pub unmarked : file .«delete_pending» ≡ false
   pub directoryUnnamed : isDirectory (file .«file_type») ≡ true → leaf .stream ≡ []
 
 abbrev pub CreationFits : Namespace → Creation → Type 0
 CreationFits ns (newStream f leaf a) = StreamFits ns f a (leaf .stream)
 CreationFits ns (newFile dir leaf file) = FileFits ns dir leaf file
 
--- an open of a stream that is there
-pub record ExistingFits (ns : Namespace) (e : Existing) : Type 0 where
+-- an open of a stream that is there; the root's is not deleted on close
+pub record ExistingFits (ns : Namespace) (deletes : Bool) (e : Existing) : Type 0 where
   pub terms : GoodTerms (e .terms)
   pub streamUsed : bareUsed (bareAt (ns .streams) (e .stream)) ≡ true
   pub streamFile : bareAt (ns .streams) (e .stream) .file ≡ e .file
   pub attributes : (a : ℕ) → e .attributes ≡ some a → AttributesFit ns (e .file) a
+  pub rootStays : deletes ≡ true → e .file ≢ root
 
-abbrev pub PendingFits : Namespace → Pending → Type 0
-PendingFits ns (existing e) = ExistingFits ns e
-PendingFits ns (creating c terms) = CreationFits ns c × GoodTerms terms
+abbrev pub PendingFits : Namespace → Bool → Pending → Type 0
+PendingFits ns deletes (existing e) = ExistingFits ns deletes e
+PendingFits ns deletes (creating c terms) = CreationFits ns c × GoodTerms terms
 
 -- a refusal with another status
 abbrev pub Other : Status → Refusal → Type 0
@@ -66,10 +70,16 @@ pub record StreamsKept (before after : List BareStream) : Type 0 where
   pub sameLength : length after ≡ length before
   pub usedKept : (s : StreamNo) → bareUsed (bareAt before s) ≡ true → bareAt after s ≡ bareAt before s
 
+-- no mark has come with a change
+pub record MarksKept (before after : Namespace) : Type 0 where
+  pub files : (f : FileNo) → fileAt (after .files) f .«delete_pending» ≡ true → fileAt (before .files) f .«delete_pending» ≡ true
+  pub streams : (s : StreamNo) → bareAt (after .streams) s .deletePending ≡ true → bareAt (before .streams) s .deletePending ≡ true
+
 -- records placed: a consistent namespace again, and the open's stream is new
 pub record PlacedWell (ns : Namespace) (p : Placed) : Type 0 where
   pub after : NamespaceConsistent (changed (p .change) ns)
   pub kept : StreamsKept (ns .streams) (changed (p .change) ns .streams)
+  pub marksKept : MarksKept ns (changed (p .change) ns)
   pub wasFree : bareUsed (bareAt (ns .streams) (p .stream)) ≡ false
   pub streamUsed : bareUsed (bareAt (changed (p .change) ns .streams) (p .stream)) ≡ true
   pub streamFile : bareAt (changed (p .change) ns .streams) (p .stream) .file ≡ p .file
@@ -82,4 +92,4 @@ pub record Joins (ss : List BareStream) (next : ℕ) (o : Open) : Type 0 where
 -- the groups of consistency that do not look at the opens, of consistent tables
 pub namespace-of : {v : Volume} {t : OpenTable} → Consistent v t → NamespaceConsistent (namespace v)
 unfolding namespace
-namespace-of c = record { files = c .files; links = c .links; streams = c .streams }
+namespace-of c = record { files = c .files; links = c .links; streams = c .streams; marks = c .marks }
