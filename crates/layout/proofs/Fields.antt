@@ -1,7 +1,7 @@
 -- Where each record and field of the tables stands.
 use Rattle.base.{specs.Base.{ℕ, _+_, _*_, _<_, _≡_, getD, set, accounts, fileNameLimit, streamNameLimit, fileSlots, linkSlots, streamSlots, openSlots, zeroFile, zeroLink, zeroStream, zeroOpen}, proofs.Laws.{refl, arith}}
 use Rattle.codecs.{specs.{Codec.{number, _⊗_, row}, Field.Field}, proofs.Fields.{whole, first, rest, slot, through, inner, moved}}
-use Rattle.layout.specs.{Records.{kindCodec, fileNoCodec, streamNoCodec, countsCodec, fileOf, fileFields, linkOf, linkFields, streamOf, streamFields, openOf, openFields, markCodec, handleCodec, fileCodec, linkCodec, streamCodec, openCodec}, Layout.{tablesCodec, parts, joined, filesCodec, linksCodec, streamsCodec, opensCodec, fileSize, linkSize, streamSize, openSize, nextAt, filesAt, linksAt, streamsAt, opensAt, countsIn}, Puts.{putMark, putNext, putFile, putLink, putStream, putOpen, recounted, putCounts}}
+use Rattle.layout.specs.{Records.{kindCodec, fileNoCodec, streamNoCodec, countsCodec, fileOf, fileFields, linkOf, linkFields, streamOf, streamFields, openOf, openFields, markCodec, handleCodec, fileCodec, linkCodec, streamCodec, openCodec}, Layout.{tablesCodec, parts, joined, filesCodec, linksCodec, streamsCodec, opensCodec, fileSize, linkSize, streamSize, openSize, nextAt, filesAt, linksAt, streamsAt, opensAt, fileMarkIn, streamMarkIn, countsIn}, Puts.{putMark, putNext, putFile, putLink, putStream, putOpen, recounted, putCounts}}
 
 pub mark-field : Field tablesCodec markCodec 0 (λ t. t .volume .«read_only») putMark
 mark-field =
@@ -17,7 +17,7 @@ module _ (k : ℕ) where
   pub file-field : k < fileSlots
       → Field tablesCodec fileCodec (filesAt + fileSize * k) (λ t. getD (t .volume .files) k zeroFile) (λ t f. putFile t (record { 0 = k }) f)
   file-field h =
-      let at : 2 + (8 + 38 * k) ≡ filesAt + fileSize * k = omega arith in
+      let at : 2 + (8 + fileSize * k) ≡ filesAt + fileSize * k = omega arith in
       moved at
       (through joined parts (λ a. refl)
       (rest markCodec
@@ -54,9 +54,14 @@ module _ (k : ℕ) where
       (rest filesCodec (rest linksCodec (rest streamsCodec (slot openCodec zeroOpen openSlots k h)))))))
 
 -- fields of the records
-pub file-type-in : Field fileCodec kindCodec 0 (λ f. f .«file_type») (λ f t. fileOf (t, (f .attributes, f .masks)))
+pub file-type-in : Field fileCodec kindCodec 0 (λ f. f .«file_type») (λ f t. fileOf (t, (f .attributes, (f .masks, f .«delete_pending»))))
 file-type-in =
-    through fileOf fileFields (λ a. refl) (first (number 4 ⊗ row (number 4) accounts) (whole kindCodec))
+    through fileOf fileFields (λ a. refl) (first (number 4 ⊗ row (number 4) accounts ⊗ markCodec) (whole kindCodec))
+
+pub file-mark-in : Field fileCodec markCodec fileMarkIn (λ f. f .«delete_pending») (λ f m. fileOf (f .«file_type», (f .attributes, (f .masks, m))))
+file-mark-in =
+    through fileOf fileFields (λ a. refl)
+    (rest kindCodec (rest (number 4) (rest (row (number 4) accounts) (whole markCodec))))
 
 pub parent-in : Field linkCodec fileNoCodec 0 (λ l. l .parent) (λ l p. linkOf (p, (l .file, l .name)))
 parent-in =
@@ -72,35 +77,41 @@ link-unit-in =
     through linkOf linkFields (λ a. refl)
     (rest fileNoCodec (rest fileNoCodec (slot (number 2) 0 fileNameLimit 0 (omega arith))))
 
-pub stream-type-in : Field streamCodec kindCodec 0 (λ s. s .«stream_type») (λ s t. streamOf (t, (s .file, (s .name, s .counts))))
+pub stream-type-in : Field streamCodec kindCodec 0 (λ s. s .«stream_type») (λ s t. streamOf (t, (s .file, (s .name, (s .counts, s .«delete_pending»)))))
 stream-type-in =
     through streamOf streamFields (λ a. refl)
-    (first (fileNoCodec ⊗ row (number 2) streamNameLimit ⊗ countsCodec) (whole kindCodec))
+    (first (fileNoCodec ⊗ row (number 2) streamNameLimit ⊗ countsCodec ⊗ markCodec) (whole kindCodec))
 
-pub stream-file-in : Field streamCodec fileNoCodec 2 (λ s. s .file) (λ s f. streamOf (s .«stream_type», (f, (s .name, s .counts))))
+pub stream-file-in : Field streamCodec fileNoCodec 2 (λ s. s .file) (λ s f. streamOf (s .«stream_type», (f, (s .name, (s .counts, s .«delete_pending»)))))
 stream-file-in =
     through streamOf streamFields (λ a. refl)
-    (rest kindCodec (first (row (number 2) streamNameLimit ⊗ countsCodec) (whole fileNoCodec)))
+    (rest kindCodec (first (row (number 2) streamNameLimit ⊗ countsCodec ⊗ markCodec) (whole fileNoCodec)))
+
+pub stream-mark-in : Field streamCodec markCodec streamMarkIn (λ s. s .«delete_pending») (λ s m. streamOf (s .«stream_type», (s .file, (s .name, (s .counts, m)))))
+stream-mark-in =
+    through streamOf streamFields (λ a. refl)
+    (rest kindCodec
+    (rest fileNoCodec (rest (row (number 2) streamNameLimit) (rest countsCodec (whole markCodec)))))
 
 counts-in : Field streamCodec countsCodec countsIn (λ s. s .counts) recounted
 counts-in =
     through streamOf streamFields (λ a. refl)
-    (rest kindCodec (rest fileNoCodec (rest (row (number 2) streamNameLimit) (whole countsCodec))))
+    (rest kindCodec (rest fileNoCodec (rest (row (number 2) streamNameLimit) (first markCodec (whole countsCodec)))))
 
-pub handle-in : Field openCodec handleCodec 0 (λ o. o .handle) (λ o h. openOf (h, (o .file, (o .stream, (o .granted, o .share)))))
+pub handle-in : Field openCodec handleCodec 0 (λ o. o .handle) (λ o h. openOf (h, (o .file, (o .stream, (o .granted, (o .share, o .«delete_on_close»))))))
 handle-in =
     through openOf openFields (λ a. refl)
-    (first (fileNoCodec ⊗ streamNoCodec ⊗ number 4 ⊗ number 4) (whole handleCodec))
+    (first (fileNoCodec ⊗ streamNoCodec ⊗ number 4 ⊗ number 4 ⊗ markCodec) (whole handleCodec))
 
-pub open-file-in : Field openCodec fileNoCodec 8 (λ o. o .file) (λ o f. openOf (o .handle, (f, (o .stream, (o .granted, o .share)))))
+pub open-file-in : Field openCodec fileNoCodec 8 (λ o. o .file) (λ o f. openOf (o .handle, (f, (o .stream, (o .granted, (o .share, o .«delete_on_close»))))))
 open-file-in =
     through openOf openFields (λ a. refl)
-    (rest handleCodec (first (streamNoCodec ⊗ number 4 ⊗ number 4) (whole fileNoCodec)))
+    (rest handleCodec (first (streamNoCodec ⊗ number 4 ⊗ number 4 ⊗ markCodec) (whole fileNoCodec)))
 
-pub open-stream-in : Field openCodec streamNoCodec 10 (λ o. o .stream) (λ o s. openOf (o .handle, (o .file, (s, (o .granted, o .share)))))
+pub open-stream-in : Field openCodec streamNoCodec 10 (λ o. o .stream) (λ o s. openOf (o .handle, (o .file, (s, (o .granted, (o .share, o .«delete_on_close»))))))
 open-stream-in =
     through openOf openFields (λ a. refl)
-    (rest handleCodec (rest fileNoCodec (first (number 4 ⊗ number 4) (whole streamNoCodec))))
+    (rest handleCodec (rest fileNoCodec (first (number 4 ⊗ number 4 ⊗ markCodec) (whole streamNoCodec))))
 
 pub counts-field : (k : ℕ) → k < streamSlots
     → Field tablesCodec countsCodec (streamsAt + streamSize * k + countsIn)

@@ -4,7 +4,7 @@ use lib.Seq.{drop-drop}
 use native.Mathlib.Nat.{add-assoc}
 use Rattle.codecs.specs.Codec.{number, decodeRow}
 use Rattle.little_endian.{specs.LittleEndian.{fromBytes, part}, proofs.Parts.{take-min, drop-take}}
-use Rattle.layout.specs.{Kinds.kindOf, Records.{fileCodec, linkCodec, countsCodec, streamCodec, openCodec}, Layout.{fileSize, linkSize, streamSize, openSize, countsIn}}
+use Rattle.layout.specs.{Kinds.{kindOf, markOf}, Records.{fileCodec, linkCodec, countsCodec, streamCodec, openCodec}, Layout.{fileSize, linkSize, streamSize, openSize, fileMarkIn, streamMarkIn, openMarkIn, countsIn}}
 
 module _ (l : List ℕ) (at : ℕ) where
   pub file-parts : fileCodec .decode (part l at fileSize)
@@ -12,6 +12,7 @@ module _ (l : List ℕ) (at : ℕ) where
         «file_type» = kindOf (fromBytes (part l at 2));
         attributes = fromBytes (part l (at + 2) 4);
         masks = decodeRow (number 4) accounts (part l (at + 6) (4 * accounts));
+        «delete_pending» = markOf (fromBytes (part l (at + fileMarkIn) 2));
       }
   file-parts = simp (take-min, drop-take, drop-drop, add-assoc)
 
@@ -41,6 +42,7 @@ module _ (l : List ℕ) (at : ℕ) where
         file = record { 0 = fromBytes (part l (at + 2) 2) };
         name = decodeRow (number 2) streamNameLimit (part l (at + 4) (2 * streamNameLimit));
         counts = countsCodec .decode (part l (at + countsIn) (countsCodec .size));
+        «delete_pending» = markOf (fromBytes (part l (at + streamMarkIn) 2));
       }
   stream-parts = simp (take-min, drop-take, drop-drop, add-assoc)
 
@@ -51,5 +53,6 @@ module _ (l : List ℕ) (at : ℕ) where
         stream = record { 0 = fromBytes (part l (at + 10) 2) };
         granted = fromBytes (part l (at + 12) 4);
         share = fromBytes (part l (at + 16) 4);
+        «delete_on_close» = markOf (fromBytes (part l (at + openMarkIn) 2));
       }
   open-parts = simp (take-min, drop-take, drop-drop, add-assoc)

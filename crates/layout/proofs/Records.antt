@@ -53,9 +53,10 @@ handle-lawful = via-lawful _ _ (λ b. refl) (λ a. refl) (λ b h. h) (λ a h. h)
 
 pub file-lawful : Lawful fileCodec FileFits
 file-lawful =
-    via-lawful _ _ (λ b. refl) (λ a. refl) (λ b h. (tt, (h .attributes, h .masks)))
-    (λ a h. record { attributes = h .1 .0; masks = h .1 .1 })
-    (both-lawful kind-lawful (both-lawful (number-lawful 4) (row-lawful (number-lawful 4) accounts)))
+    via-lawful _ _ (λ b. refl) (λ a. refl) (λ b h. (tt, (h .attributes, (h .masks, tt))))
+    (λ a h. record { attributes = h .1 .0; masks = h .1 .1 .0 })
+    (both-lawful kind-lawful
+    (both-lawful (number-lawful 4) (both-lawful (row-lawful (number-lawful 4) accounts) mark-lawful)))
 
 pub link-lawful : Lawful linkCodec LinkFits
 link-lawful =
@@ -82,14 +83,14 @@ counts-lawful =
 
 pub stream-lawful : Lawful streamCodec StreamFits
 stream-lawful =
-    via-lawful _ _ (λ b. refl) (λ a. refl) (λ b h. (tt, (h .file, (h .name, h .counts))))
-    (λ a h. record { file = h .1 .0; name = h .1 .1 .0; counts = h .1 .1 .1 })
+    via-lawful _ _ (λ b. refl) (λ a. refl) (λ b h. (tt, (h .file, (h .name, (h .counts, tt)))))
+    (λ a h. record { file = h .1 .0; name = h .1 .1 .0; counts = h .1 .1 .1 .0 })
     (both-lawful kind-lawful
-    (both-lawful fileNo-lawful (both-lawful (row-lawful (number-lawful 2) streamNameLimit) counts-lawful)))
+    (both-lawful fileNo-lawful (both-lawful (row-lawful (number-lawful 2) streamNameLimit) (both-lawful counts-lawful mark-lawful))))
 
 pub open-lawful : Lawful openCodec OpenFits
 open-lawful =
-    via-lawful _ _ (λ b. refl) (λ a. refl) (λ b h. (h .handle, (h .file, (h .stream, (h .granted, h .share)))))
-    (λ a h. record { handle = h .0; file = h .1 .0; stream = h .1 .1 .0; granted = h .1 .1 .1 .0; share = h .1 .1 .1 .1 })
+    via-lawful _ _ (λ b. refl) (λ a. refl) (λ b h. (h .handle, (h .file, (h .stream, (h .granted, (h .share, tt))))))
+    (λ a h. record { handle = h .0; file = h .1 .0; stream = h .1 .1 .0; granted = h .1 .1 .1 .0; share = h .1 .1 .1 .1 .0 })
     (both-lawful handle-lawful
-    (both-lawful fileNo-lawful (both-lawful streamNo-lawful (both-lawful (number-lawful 4) (number-lawful 4)))))
+    (both-lawful fileNo-lawful (both-lawful streamNo-lawful (both-lawful (number-lawful 4) (both-lawful (number-lawful 4) mark-lawful)))))

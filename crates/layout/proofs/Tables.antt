@@ -68,5 +68,5 @@ unfolding decode
 decode-fits bs b l = tables-lawful .fits bs b l
 
 -- the sizes as docs/LAYOUT.md gives them
-pub sizes : (tablesSize ≡ 44042) × (filesAt ≡ 10) × (linksAt ≡ 4874) × (streamsAt ≡ 17930) × (opensAt ≡ 38922)
+pub sizes : (tablesSize ≡ 45322) × (filesAt ≡ 10) × (linksAt ≡ 5130) × (streamsAt ≡ 18186) × (opensAt ≡ 39690)
 sizes = (refl, refl, refl, refl, refl)

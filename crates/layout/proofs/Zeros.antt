@@ -34,8 +34,8 @@ handle-zero : Zero handleCodec (record { 0 = 0 })
 handle-zero = via-zero (λ n. record { 0 = n }) _ (number-zero 8)
 
 file-zero : Zero fileCodec zeroFile
-unfolding kindOf
-file-zero = via-zero fileOf fileFields (both-zero kind-zero (both-zero (number-zero 4) (row-zero (number-zero 4) accounts)))
+unfolding kindOf markOf
+file-zero = via-zero fileOf fileFields (both-zero kind-zero (both-zero (number-zero 4) (both-zero (row-zero (number-zero 4) accounts) mark-zero)))
 
 link-zero : Zero linkCodec zeroLink
 link-zero = via-zero linkOf linkFields (both-zero fileNo-zero (both-zero fileNo-zero (row-zero (number-zero 2) fileNameLimit)))
@@ -46,15 +46,16 @@ counts-zero =
     via-zero countsOf countsFields (both-zero two (both-zero two (both-zero two (both-zero two (both-zero two (both-zero two two))))))
 
 stream-zero : Zero streamCodec zeroStream
-unfolding kindOf
+unfolding kindOf markOf
 stream-zero =
     via-zero streamOf streamFields
-    (both-zero kind-zero (both-zero fileNo-zero (both-zero (row-zero (number-zero 2) streamNameLimit) counts-zero)))
+    (both-zero kind-zero (both-zero fileNo-zero (both-zero (row-zero (number-zero 2) streamNameLimit) (both-zero counts-zero mark-zero))))
 
 open-zero : Zero openCodec zeroOpen
+unfolding markOf
 open-zero =
     via-zero openOf openFields
-    (both-zero handle-zero (both-zero fileNo-zero (both-zero streamNo-zero (both-zero (number-zero 4) (number-zero 4)))))
+    (both-zero handle-zero (both-zero fileNo-zero (both-zero streamNo-zero (both-zero (number-zero 4) (both-zero (number-zero 4) mark-zero)))))
 
 tables-zero : Zero tablesCodec zeroTables
 unfolding markOf

@@ -9,19 +9,27 @@ use records::sizes::OPEN_SLOTS;
 use records::sizes::STREAM_NAME_LIMIT;
 use records::sizes::STREAM_SLOTS;
 ghost use mathlib.Core.Path.{_≡_};
-ghost use Rattle.layout.specs.Kinds.{kindOf, kindNumber};
+ghost use Rattle.layout.specs.Kinds.{kindOf, kindNumber, markNumber};
+
+// the mark's place in a file
+pub const FILE_MARK_IN: usize = 2 + 4 + 4 * ACCOUNTS;
 
 // bytes of a record
-pub const FILE_SIZE: usize = 2 + 4 + 4 * ACCOUNTS;
+pub const FILE_SIZE: usize = FILE_MARK_IN + 2;
 
 pub const LINK_SIZE: usize = 2 + 2 + 2 * FILE_NAME_LIMIT;
 
-// the counts' place in a stream
+// the counts' and the mark's place in a stream
 pub const COUNTS_IN: usize = 2 + 2 + 2 * STREAM_NAME_LIMIT;
 
-pub const STREAM_SIZE: usize = COUNTS_IN + 2 * 7;
+pub const STREAM_MARK_IN: usize = COUNTS_IN + 2 * 7;
 
-pub const OPEN_SIZE: usize = 8 + 2 + 2 + 4 + 4;
+pub const STREAM_SIZE: usize = STREAM_MARK_IN + 2;
+
+// the mark's place in an open
+pub const OPEN_MARK_IN: usize = 8 + 2 + 2 + 4 + 4;
+
+pub const OPEN_SIZE: usize = OPEN_MARK_IN + 2;
 
 // places
 pub const MARK_AT: usize = 0;
@@ -59,4 +67,10 @@ pub fn kind_number(t: FileType) -> u16
         FileType::Data => 1,
         FileType::Directory => 2,
     }
+}
+
+pub fn mark_number(mark: bool) -> u16
+    ensures { λ r. ⌜ r ≡ markNumber mark ⌝ }
+{
+    if mark { 1 } else { 0 }
 }

@@ -2,10 +2,12 @@
 // and nothing is written there.
 use codecs::read_words;
 use codecs::write_words;
+use layout::FILE_MARK_IN;
 use layout::FILE_SIZE;
 use layout::FILES_AT;
 use layout::kind_number;
 use layout::kind_of;
+use layout::mark_number;
 use little_endian::read_u16;
 use little_endian::read_u32;
 use little_endian::write_u16;
@@ -34,10 +36,12 @@ fn file_from(b: &[u8], at: usize) -> File
     let attributes = read_u32(b, at + 2);
     let mut masks = [0u32; ACCOUNTS];
     read_words(b, at + 6, &mut masks);
+    let delete_pending = read_u16(b, at + FILE_MARK_IN) != 0;
     File {
         file_type,
         attributes,
         masks,
+        delete_pending,
     }
 }
 
@@ -62,6 +66,7 @@ fn put_file(b: &mut [u8], at: usize, f: File)
     write_u16(b, at, kind_number(file_type));
     write_u32(b, at + 2, f.attributes);
     write_words(b, at + 6, &masks);
+    write_u16(b, at + FILE_MARK_IN, mark_number(f.delete_pending));
 }
 
 pub fn write_file(b: &mut [u8], n: FileNo, f: File)
@@ -85,5 +90,18 @@ pub fn read_file_type(b: &[u8], n: FileNo) -> FileType
         kind_of(read_u16(b, FILES_AT + FILE_SIZE * i))
     } else {
         FileType::Unused
+    }
+}
+
+// A file's mark alone: it goes with its last open.
+pub fn read_file_mark(b: &[u8], n: FileNo) -> bool
+    requires { ⌜ length (now b) ≡ tablesSize ⌝ }
+    ensures { λ r. ⌜ r ≡ fileAt (decode (now (b .entry)) .volume .files) n .«delete_pending» ⌝ }
+{
+    let i = n.0 as usize;
+    if i < FILE_SLOTS {
+        read_u16(b, FILES_AT + FILE_SIZE * i + FILE_MARK_IN) != 0
+    } else {
+        false
     }
 }

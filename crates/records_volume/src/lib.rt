@@ -1,6 +1,7 @@
 // The volume's read-only mark and next handle in the lent bytes.
 use layout::MARK_AT;
 use layout::NEXT_AT;
+use layout::mark_number;
 use little_endian::read_u16;
 use little_endian::read_u64;
 use little_endian::write_u16;
@@ -8,7 +9,6 @@ use little_endian::write_u64;
 use records::Handle;
 ghost use mathlib.Core.Path.{_≡_};
 ghost use lib.ListN.{length};
-ghost use Rattle.layout.specs.Kinds.{markNumber};
 ghost use Rattle.layout.specs.Layout.{tablesSize, decode, Changed};
 ghost use Rattle.layout.specs.Puts.{putMark, putNext};
 
@@ -18,12 +18,6 @@ pub fn read_mark(b: &[u8]) -> bool
     ensures { λ r. ⌜ r ≡ decode (now (b .entry)) .volume .«read_only» ⌝ }
 {
     read_u16(b, MARK_AT) != 0
-}
-
-fn mark_number(mark: bool) -> u16
-    ensures { λ r. ⌜ r ≡ markNumber mark ⌝ }
-{
-    if mark { 1 } else { 0 }
 }
 
 pub fn write_mark(b: &mut [u8], mark: bool)

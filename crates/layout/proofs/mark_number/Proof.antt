@@ -1,7 +1,7 @@
--- `records_volume::mark_number` meets its contract, by the two cases.
+-- `layout::mark_number` meets its contract, by the two cases.
 use Rattle.layout.specs.Kinds.{markNumber}
-use Rattle.records_volume.proofs.mark_number.Statement.{statement}
-use Rattle.records_volume.proofs.mark_number.Tie as tie
+use Rattle.layout.proofs.mark_number.Statement.{statement}
+use Rattle.layout.proofs.mark_number.Tie as tie
 
 returns : tie.Need-returns
 unfolding markNumber
