@@ -1,6 +1,6 @@
 -- Some element passes.
 use Prim.Native.Nat.{ℕ, zero, suc, _+_, _≤_, _<_}
-use lib.ListN.{length, getD, drop, drop-of-length-le}
+use lib.ListN.{length, getD, set, drop, drop-of-length-le}
 use mathlib.Core.{Path.{_≡_, refl, _∙_, ap, ap₂}, Bool.{Bool, true, false, _&&_, _||_, false≢true}, List.{List, [], _∷_}, Logic.⊎-elim}
 use native.Mathlib.Omega.{arith}
 use Rattle.lists.proofs.{Tests.{refuted, not-both, or-cases, or-left, or-right, or-neither}, Places.drop-next}
@@ -74,3 +74,11 @@ module _ {A : Type 0} where
   none-too p q i (x ∷ xs) h =
       let n = or-neither (p x) (any p xs) h in
       ap₂ (λ (a b : Bool). a || b) (i x (n .0)) (none-too p q i xs (n .1))
+
+  -- no element passes, and one that fails is set
+  pub none-set : (p : A → Bool) (xs : List A) (i : ℕ) (y : A) → p y ≡ false → any p xs ≡ false → any p (set xs i y) ≡ false
+  unfolding any
+  none-set p [] i y n h = refl
+  none-set p (x ∷ xs) zero y n h = ap₂ (λ (a b : Bool). a || b) n (or-neither (p x) (any p xs) h .1)
+  none-set p (x ∷ xs) (suc i) y n h =
+      let r = or-neither (p x) (any p xs) h in ap₂ (λ (a b : Bool). a || b) (r .0) (none-set p xs i y n (r .1))

@@ -29,10 +29,14 @@ module _ {A : Type 0} (d : A) where
         | no n ↦ inr (ap (λ (ys : List A). getD ys j d) (set-out xs i y (omega arith)))
       ]
 
-  -- what holds of the new record and held at every place holds at every place
+  -- what holds of the new record at its place and held at every place holds at every place
+  pub set-placed : (P : ℕ → A → Type 0) (xs : List A) (i : ℕ) (y : A) → P i y → ((j : ℕ) → P j (getD xs j d))
+      → (j : ℕ) → P j (getD (set xs i y) j d)
+  set-placed P xs i y new old j = ⊎-elim (λ q. rw (q .1, q .0) new) (λ q. rw q (old j)) (set-either xs i j y)
+
   pub set-each : (P : A → Type 0) (xs : List A) (i : ℕ) (y : A) → P y → ((j : ℕ) → P (getD xs j d))
       → (j : ℕ) → P (getD (set xs i y) j d)
-  set-each P xs i y new old j = ⊎-elim (λ q. rw (q .1) new) (λ q. rw q (old j)) (set-either xs i j y)
+  set-each P = set-placed (λ j. P)
 
   -- the same of two places, for what does not depend on their order
   pub set-pairs : (R : A → A → Type 0) → ((a b : A) → R a b → R b a) → (xs : List A) (i : ℕ) (y : A)

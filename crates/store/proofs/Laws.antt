@@ -5,7 +5,7 @@ use Prim.Native.Nat.{pred}
 use Rattle.consistency.specs.Consistent.{Consistent}
 use Rattle.format.specs.Format.{checkedMasks, format}
 use Rattle.tables.specs.Tables.{live}
-use Rattle.store.proofs.Sequences.{Steps.together, Views.Related}
+use Rattle.store.proofs.Sequences.{Related.Related, Steps.together}
 use Rattle.store.specs.{Calls.{Call, closes, modelStep, opens, setsReadOnly, storeStep}, Complete.nextHandle, Model.Model, Store.{closed, opened, storeClose, storeOpen, storeSetReadOnly, whenConsistent}}
 
 -- a step that is no refusal

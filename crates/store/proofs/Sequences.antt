@@ -9,8 +9,10 @@ pub mod Requested
 pub mod Prepared
 pub mod Changes
 pub mod Opens
+pub mod Related
 pub mod Views
 pub mod Completed
+pub mod Closed
 pub mod Steps
 pub mod Violation
 pub mod Theorem

@@ -1,6 +1,7 @@
 -- What an accepted open writes leaves consistent names.
 pub mod Types
 pub mod Files
+pub mod Marks
 pub mod Attributes
 pub mod Free
 pub mod Relations

@@ -1,10 +1,10 @@
 -- How a pending open ends: refused, with SHARING_VIOLATION exactly for a conflict; or accepted, with a consistent
 -- namespace after its change, an open that may join the table, a free slot, and no conflict.
-use Rattle.base.{specs.Base.{ℕ, writes, Refusal, _>>=_, _>>_, passed, refuseIf, shareRead, BareStream, Namespace, bareAt, bareUsed, statusNumber, Terms, termsOf, Created, FileNo, Handle, Open, Request, FileCorruptError, SharingViolation, length, Bool, false, not, true, List, _⊎_, inl, inr, Option, none, some, _≡_}, proofs.Laws.{not-both, Ends, ends-bind, ends-test, ends-weaker, goes, stops, eq-eqb, not-false, _∙_, ap, refl, subst, sym, arith}}
+use Rattle.base.{specs.Base.{ℕ, writes, Refusal, _>>=_, _>>_, passed, refuseIf, shareRead, BareStream, Namespace, bareAt, bareUsed, statusNumber, Terms, termsOf, Created, FileNo, Handle, Open, Request, FileCorruptError, SharingViolation, StreamNo, length, Bool, false, not, true, List, _⊎_, inl, inr, Option, none, some, _≡_}, proofs.Laws.{not-both, Ends, ends-bind, ends-test, ends-weaker, goes, stops, eq-eqb, not-false, _∙_, ap, refl, subst, sym, arith}}
 use lib.{Bits.or-lt, Dec.lit<}
 use Rattle.consistency.specs.Good.{GoodTerms}
-use Rattle.store.proofs.Sequences.{Changes.{Attributes.attributes-kept, Placed.placed-well}, Facts.{AttributesFit, Early, ExistingFits, Joins, NamespaceConsistent, Other, PendingFits, PlacedWell, StreamsKept}, Prepared.prepare-ends}
-use Rattle.store.specs.{Complete.{Decision, Placed, View, attributeChange, changed, complete, decide, newOpen, nextHandle, placeExisting, shareOf, withShareRead}, Prepare.{Existing, Pending, ReadSharing, addedIfAlone, asOffered, creating, deniedIfAlone, existing}}
+use Rattle.store.proofs.Sequences.{Changes.{Attributes.{attributes-kept, attributes-unmarked}, Placed.placed-well}, Facts.{AttributesFit, Early, ExistingFits, Joins, MarksKept, NamespaceConsistent, Other, PendingFits, PlacedWell, StreamsKept}, Prepared.prepare-ends}
+use Rattle.store.specs.{Complete.{Decision, Placed, View, attributeChange, changed, complete, decide, newOpen, nextHandle, placeExisting, shareOf, withShareRead}, Prepare.{Existing, Pending, ReadSharing, addedIfAlone, asOffered, creating, deniedIfAlone, existing}, Request.deletesOnClose}
 
 -- why an accepted open conflicts with none: the check said so, of its terms or of terms that share less; or its stream is
 -- new
@@ -16,6 +16,7 @@ Unopposed ns view o =
 pub record DecisionFits (ns : Namespace) (view : View) (d : Decision) : Type 0 where
   pub after : NamespaceConsistent (changed (d .placed .change) ns)
   pub kept : StreamsKept (ns .streams) (changed (d .placed .change) ns .streams)
+  pub marksKept : MarksKept (ns .files) (changed (d .placed .change) ns .files)
   pub joins : Joins (changed (d .placed .change) ns .streams) (view .next) (newOpen d)
   pub room : view .room ≡ true
   pub unopposed : Unopposed ns view (newOpen d)
@@ -62,31 +63,40 @@ good-still t s g (inr e) =
 -- what a change of attributes alone leaves
 module _ (ns : Namespace) (f : FileNo) (ok : NamespaceConsistent ns) where
   attributes-alone : (o : Option ℕ) → ((a : ℕ) → o ≡ some a → AttributesFit ns f a)
-      → NamespaceConsistent (changed (attributeChange ns f o) ns) × (changed (attributeChange ns f o) ns .streams ≡ ns .streams)
+      → let after = changed (attributeChange ns f o) ns in
+      NamespaceConsistent after × (after .streams ≡ ns .streams) × MarksKept (ns .files) (after .files)
   unfolding changed attributeChange writes
-  attributes-alone none fits = (ok, refl)
-  attributes-alone (some a) fits = (attributes-kept ns f a ok (fits a refl), refl)
+  attributes-alone none fits = (ok, refl, λ g u. u)
+  attributes-alone (some a) fits =
+      let fit = fits a refl in (attributes-kept ns f a ok fit, refl, attributes-unmarked ns f a ok fit)
 
-module _ (view : View) (ns : Namespace) (ok : NamespaceConsistent ns) (room : view .room ≡ true) (h : Handle) (next : h .0 ≡ view .next) where
+module _ (view : View) (ns : Namespace) (deletes : Bool) (ok : NamespaceConsistent ns) (room : view .room ≡ true) (h : Handle) (next : h .0 ≡ view .next) where
   -- an accepted open of a stream that is there
-  accepted : (e : Existing) → ExistingFits ns e → view .conflicts (e .stream) (e .terms) ≡ false
+  accepted : (e : Existing) → ExistingFits ns deletes e → view .conflicts (e .stream) (e .terms) ≡ false
       → (t : Terms) → (t ≡ e .terms) ⊎ (t ≡ withShareRead (e .terms))
-      → DecisionFits ns view (record { action = e .action; placed = placeExisting ns e; terms = t; handle = h })
+      → DecisionFits ns view (record { action = e .action; placed = placeExisting ns e; terms = t; handle = h; deleteOnClose = deletes })
   unfolding placeExisting
   accepted e fits free t s =
       let q = attributes-alone ns (e .file) ok (e .attributes) (fits .attributes) in
-      let at : List BareStream → BareStream = λ ss. bareAt ss (e .stream) in
+      let at : (n : StreamNo) → bareAt (changed _ ns .streams) n ≡ bareAt (ns .streams) n = λ n. ap (λ (ss : List BareStream). bareAt ss n) (q .1) in
       record {
         after = q .0;
-        kept = record { sameLength = ap length (q .1); usedKept = λ n u. ap (λ (ss : List BareStream). bareAt ss n) (q .1) };
+        kept =
+            record {
+              sameLength = ap length (q .1);
+              usedKept = λ n u. at n;
+              marksKept = λ n u. sym (ap (λ (b : BareStream). b .deletePending) (at n)) ∙ u;
+            };
+        marksKept = q .2;
         joins =
             record {
               good =
                   record {
-                    namesUsedStream = ap (λ (ss : List BareStream). bareUsed (at ss)) (q .1) ∙ fits .streamUsed;
-                    namesItsFile = sym (ap (λ (ss : List BareStream). at ss .file) (q .1) ∙ fits .streamFile);
+                    namesUsedStream = ap bareUsed (at (e .stream)) ∙ fits .streamUsed;
+                    namesItsFile = sym (ap (λ (b : BareStream). b .file) (at (e .stream)) ∙ fits .streamFile);
                     terms = good-still (e .terms) t (fits .terms) s;
                     handleBelow = omega (arith, next);
+                    rootStays = fits .rootStays;
                   };
               handle = next;
             };
@@ -96,11 +106,12 @@ module _ (view : View) (ns : Namespace) (ok : NamespaceConsistent ns) (room : vi
 
   -- an accepted open of what it creates
   created : (p : Placed) → PlacedWell ns p → (t : Terms) → GoodTerms t
-      → DecisionFits ns view (record { action = Created; placed = p; terms = t; handle = h })
+      → DecisionFits ns view (record { action = Created; placed = p; terms = t; handle = h; deleteOnClose = deletes })
   created p well t g =
       record {
         after = well .after;
         kept = well .kept;
+        marksKept = well .marksKept;
         joins =
             record {
               good =
@@ -109,6 +120,7 @@ module _ (view : View) (ns : Namespace) (ok : NamespaceConsistent ns) (room : vi
                     namesItsFile = sym (well .streamFile);
                     terms = g;
                     handleBelow = omega (arith, next);
+                    rootStays = λ d. well .notRoot;
                   };
               handle = next;
             };
@@ -116,26 +128,26 @@ module _ (view : View) (ns : Namespace) (ok : NamespaceConsistent ns) (room : vi
         unopposed = inr (well .wasFree);
       }
 
-pub complete-ends : (view : View) (ns : Namespace) (p : Pending) → NamespaceConsistent ns → PendingFits ns p
-    → Ends (Late view p) (DecisionFits ns view) (complete view ns p)
+pub complete-ends : (view : View) (ns : Namespace) (deletes : Bool) (p : Pending) → NamespaceConsistent ns
+    → PendingFits ns deletes p → Ends (Late view p) (DecisionFits ns view) (complete view ns deletes p)
 unfolding complete statusNumber refuseIf _>>_
-complete-ends view ns (existing e) ok fits = go (view .conflicts (e .stream) (e .terms)) refl
+complete-ends view ns deletes (existing e) ok fits = go (view .conflicts (e .stream) (e .terms)) refl
   where
     go : (b : Bool) → view .conflicts (e .stream) (e .terms) ≡ b
         → Ends (Late view (existing e)) (DecisionFits ns view)
         (refuseIf b SharingViolation
         >> (shareOf (e .readSharing) (not (view .fileOpen (e .file))) (e .terms)
         >>= (λ t. nextHandle view
-        >>= (λ h. passed (record { action = e .action; placed = placeExisting ns e; terms = t; handle = h })))))
+        >>= (λ h. passed (record { action = e .action; placed = placeExisting ns e; terms = t; handle = h; deleteOnClose = deletes })))))
     go true c = stops (record { notCorrupt = refl; sharing = λ s. (e, refl, c) })
     go false c =
         ends-weaker (late view (existing e)) (λ d q. q)
         (ends-bind (share-ends (e .readSharing) _ (e .terms))
-        (λ t s. ends-bind (handle-ends view) (λ h q. goes (accepted view ns ok (q .0) h (q .1) e fits c t s))))
-complete-ends view ns (creating c t) ok fits =
+        (λ t s. ends-bind (handle-ends view) (λ h q. goes (accepted view ns deletes ok (q .0) h (q .1) e fits c t s))))
+complete-ends view ns deletes (creating c t) ok fits =
     ends-weaker (late view (creating c t)) (λ d q. q)
     (ends-bind (placed-well ns ok c (fits .0))
-    (λ p well. ends-bind (handle-ends view) (λ h q. goes (created view ns ok (q .0) h (q .1) p well t (fits .1)))))
+    (λ p well. ends-bind (handle-ends view) (λ h q. goes (created view ns deletes ok (q .0) h (q .1) p well t (fits .1)))))
 
 -- the twelve steps
 pub decide-ends : (view : View) (ns : Namespace) (r : Request) (units : List ℕ) → NamespaceConsistent ns
@@ -143,4 +155,4 @@ pub decide-ends : (view : View) (ns : Namespace) (r : Request) (units : List ℕ
 unfolding decide
 decide-ends view ns r units ok =
     ends-bind (ends-weaker (λ q e. e .0) (λ p f. f) (prepare-ends ns r units ok))
-    (λ p f. ends-weaker (λ q l. l .notCorrupt) (λ d g. g) (complete-ends view ns p ok f))
+    (λ p f. ends-weaker (λ q l. l .notCorrupt) (λ d g. g) (complete-ends view ns (deletesOnClose r) p ok f))

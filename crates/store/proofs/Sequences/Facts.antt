@@ -65,24 +65,26 @@ Other s r = eqb (statusNumber (r .status)) (statusNumber s) ≡ false
 abbrev pub Early : Refusal → Type 0
 Early r = Other FileCorruptError r × Other SharingViolation r
 
--- how the streams before a change stand in those after it
+-- how the streams before a change stand in those after it: a marked one was marked before
 pub record StreamsKept (before after : List BareStream) : Type 0 where
   pub sameLength : length after ≡ length before
   pub usedKept : (s : StreamNo) → bareUsed (bareAt before s) ≡ true → bareAt after s ≡ bareAt before s
+  pub marksKept : (s : StreamNo) → bareAt after s .deletePending ≡ true → bareAt before s .deletePending ≡ true
 
--- no mark has come with a change
-pub record MarksKept (before after : Namespace) : Type 0 where
-  pub files : (f : FileNo) → fileAt (after .files) f .«delete_pending» ≡ true → fileAt (before .files) f .«delete_pending» ≡ true
-  pub streams : (s : StreamNo) → bareAt (after .streams) s .deletePending ≡ true → bareAt (before .streams) s .deletePending ≡ true
+-- so it is with the files
+abbrev pub MarksKept : List File → List File → Type 0
+MarksKept before after =
+    (f : FileNo) → fileAt after f .«delete_pending» ≡ true → fileAt before f .«delete_pending» ≡ true
 
--- records placed: a consistent namespace again, and the open's stream is new
+-- records placed: a consistent namespace again, and the open's stream is new, of a file that is not the root
 pub record PlacedWell (ns : Namespace) (p : Placed) : Type 0 where
   pub after : NamespaceConsistent (changed (p .change) ns)
   pub kept : StreamsKept (ns .streams) (changed (p .change) ns .streams)
-  pub marksKept : MarksKept ns (changed (p .change) ns)
+  pub marksKept : MarksKept (ns .files) (changed (p .change) ns .files)
   pub wasFree : bareUsed (bareAt (ns .streams) (p .stream)) ≡ false
   pub streamUsed : bareUsed (bareAt (changed (p .change) ns .streams) (p .stream)) ≡ true
   pub streamFile : bareAt (changed (p .change) ns .streams) (p .stream) .file ≡ p .file
+  pub notRoot : p .file ≢ root
 
 -- an open that may join the opens of a table, with the next handle
 pub record Joins (ss : List BareStream) (next : ℕ) (o : Open) : Type 0 where

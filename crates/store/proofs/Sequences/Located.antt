@@ -1,6 +1,6 @@
 -- What the searches find in a consistent namespace: where a path leads, to a used file or to a directory without the
--- name, and which stream of a file a name is.
-use Rattle.base.{specs.Base.{suc, zero, ℕ, any, first, isEmpty, same, _>>=_, passed, someOr, BareStream, Namespace, bareAt, bareUsed, zeroBare, statusNumber, fileNameLimit, fileUsed, isDirectory, linkUsed, root, zeroLink, FileNo, LinkNo, FileCorruptError, StreamNo, eqb, getD, Bool, _&&_, false, not, true, List, [], _∷_, map, Option, none, some, _≡_}, proofs.Laws.{and-left, and-right, any-same, any-count, after-found, none-iff, Ends, ends-bind, ends-cond, goes, stops, eqb-true, false≢true, _∙_, ap, refl, sym, arith}}
+-- name, which is not marked; and which stream of a file a name is.
+use Rattle.base.{specs.Base.{suc, zero, ℕ, any, first, isEmpty, same, _>>=_, passed, someOr, BareStream, Namespace, bareAt, bareUsed, zeroBare, statusNumber, fileNameLimit, fileUsed, isDirectory, linkUsed, root, zeroLink, FileNo, LinkNo, FileCorruptError, StreamNo, eqb, getD, Bool, _&&_, false, not, true, List, [], _∷_, map, Option, none, some, _≡_}, proofs.Laws.{and-left, and-right, any-same, any-count, after-found, none-iff, Ends, ends-bind, ends-test, goes, stops, eqb-true, not-false, false≢true, _∙_, ap, refl, sym, arith}}
 use lib.Dec.{eqb·suc-zero}
 use Rattle.consistency.{proofs.Numbered.{directory-used, same-file}, specs.Relations.{streamOf, unnamedOf}}
 use Rattle.lookup.specs.Lookup.{Place, descend, findLink, found, foundRoot, linkMatches, linkNumber, locate, locateLeaf, missing, placeIn, stepInto}
@@ -12,9 +12,14 @@ use Rattle.tables.specs.Tables.{fileAt, linkAt}
 use Rattle.units.specs.Units.{equalUnits, folded}
 use Rattle.store.proofs.Sequences.Facts.{Early, NamespaceConsistent}
 
+-- a directory that a path may lead through: one that is not marked
+pub record Passable (ns : Namespace) (dir : FileNo) : Type 0 where
+  pub directory : isDirectory (fileAt (ns .files) dir .«file_type») ≡ true
+  pub unmarked : fileAt (ns .files) dir .«delete_pending» ≡ false
+
 -- a name that a directory may gain
 pub record MissingFits (ns : Namespace) (fold wantsDirectory : Bool) (dir : FileNo) (leaf : Leaf) : Type 0 where
-  pub parent : isDirectory (fileAt (ns .files) dir .«file_type») ≡ true
+  pub parent : Passable ns dir
   pub leafFits : LeafFits wantsDirectory leaf
   pub nameValid : validFileName fileNameLimit (leaf .file) ≡ true
   pub nameNew : any (linkMatches fold dir (leaf .file)) (ns .links) ≡ false
@@ -35,60 +40,58 @@ matching-used fold (suc c ∷ s) name n h = ap not (eqb·suc-zero c)
 
 module _ (ns : Namespace) (fold wd : Bool) (ok : NamespaceConsistent ns) where
   -- the components before the last lead from a directory to a directory
-  into-ends : (o : Option LinkNo)
-      → Ends Early (λ f. isDirectory (fileAt (ns .files) f .«file_type») ≡ true) (stepInto ns o)
+  into-ends : (o : Option LinkNo) → Ends Early (Passable ns) (stepInto ns o)
   unfolding stepInto statusNumber
   into-ends none = stops (refl, refl)
   into-ends (some l) =
-      ends-cond (isDirectory (fileAt (ns .files) (linkAt (ns .links) l .file) .«file_type»)) (λ e. goes e)
-      (λ e. stops (refl, refl))
+      ends-test _ _ (refl, refl)
+      (λ m. ends-test _ _ (refl, refl) (λ d. goes (record { directory = not-false _ d; unmarked = m })))
 
-  descend-ends : (dir : FileNo) (names : List (List ℕ)) → isDirectory (fileAt (ns .files) dir .«file_type») ≡ true
-      → Ends Early (λ f. isDirectory (fileAt (ns .files) f .«file_type») ≡ true) (descend ns fold dir names)
+  descend-ends : (dir : FileNo) (names : List (List ℕ)) → Passable ns dir → Ends Early (Passable ns) (descend ns fold dir names)
   unfolding descend
   descend-ends dir [] i = goes i
   descend-ends dir (name ∷ names) i =
       ends-bind (into-ends (findLink ns fold dir name)) (λ next j. descend-ends next names j)
 
-  leaf-placed : (dir : FileNo) (leaf : Leaf) → isDirectory (fileAt (ns .files) dir .«file_type») ≡ true
-      → LeafFits wd leaf → isEmpty (leaf .file) ≡ false → PlaceFits ns fold wd (locateLeaf ns fold dir leaf)
-  unfolding locateLeaf findLink placeIn linkNumber linkMatches linkUsed linkAt fileUsed
-  leaf-placed dir leaf i fits named = go (first (linkMatches fold dir (leaf .file)) (ns .links)) refl
+  leaf-ends : (dir : FileNo) (leaf : Leaf) → Passable ns dir → LeafFits wd leaf → isEmpty (leaf .file) ≡ false
+      → Ends Early (PlaceFits ns fold wd) (locateLeaf ns fold dir leaf)
+  unfolding locateLeaf findLink placeIn linkNumber linkMatches linkUsed linkAt fileUsed statusNumber
+  leaf-ends dir leaf i fits named = go (first (linkMatches fold dir (leaf .file)) (ns .links)) refl
     where
       go : (o : Option ℕ) → first (linkMatches fold dir (leaf .file)) (ns .links) ≡ o
-          → PlaceFits ns fold wd (placeIn ns dir leaf (linkNumber o))
+          → Ends Early (PlaceFits ns fold wd) (placeIn ns dir leaf (linkNumber o))
       go none e =
-          record {
+          goes {a = missing dir leaf}
+          (record {
             parent = i;
             leafFits = fits;
             nameValid = fits .fileValid named;
             nameNew = none-iff (linkMatches fold dir (leaf .file)) (ns .links) .1 e;
-          }
+          })
       go (some n) e =
           let l = getD (ns .links) n zeroLink in
-          ok .links .slots .usedGood n
-          (matching-used fold (l .name) (leaf .file) named
+          let used =
+          matching-used fold (l .name) (leaf .file) named
           (and-right (eqb (l .parent .0) (dir .0)) (equalUnits fold (units (l .name)) (leaf .file))
-          (after-found (linkMatches fold dir (leaf .file)) zeroLink (ns .links) 0 n e .passes)))
-          .namesUsedFile
+          (after-found (linkMatches fold dir (leaf .file)) zeroLink (ns .links) 0 n e .passes)) in
+          ends-test _ _ (refl, refl) (λ m. goes (ok .links .slots .usedGood n used .namesUsedFile))
 
   pub located-ends : (path : Path) → LeafFits wd (path .leaf) → Ends Early (PlaceFits ns fold wd) (locate ns fold path)
   unfolding locate fileUsed
   located-ends path fits = go (isEmpty (path .leaf .file)) refl
     where
-      rootDirectory : isDirectory (fileAt (ns .files) root .«file_type») ≡ true
-      rootDirectory = ok .files .rootDirectory
+      from-root : Passable ns root
+      from-root = record { directory = ok .files .rootDirectory; unmarked = ok .marks .rootUnmarked }
 
       go : (b : Bool) → isEmpty (path .leaf .file) ≡ b
           → Ends Early (PlaceFits ns fold wd)
           (elim b [
             | true ↦ passed foundRoot
-            | false ↦ descend ns fold root (path .parents) >>= (λ dir. passed (locateLeaf ns fold dir (path .leaf)))
+            | false ↦ descend ns fold root (path .parents) >>= (λ dir. locateLeaf ns fold dir (path .leaf))
           ])
-      go true e = goes (directory-used _ rootDirectory)
+      go true e = goes (directory-used _ (from-root .directory))
       go false e =
-          ends-bind (descend-ends root (path .parents) rootDirectory)
-          (λ dir i. goes (leaf-placed dir (path .leaf) i fits e))
+          ends-bind (descend-ends root (path .parents) from-root) (λ dir i. leaf-ends dir (path .leaf) i fits e)
 
 -- a used stream of the file
 pub record StreamThere (ns : Namespace) (f : FileNo) (s : StreamNo) : Type 0 where

@@ -9,7 +9,7 @@ use Rattle.paths.{proofs.Parsed.{LeafFits, parsed-ends}, specs.Paths.Leaf}
 use Rattle.stream_lookup.specs.StreamLookup.{streamMatches, findStream}
 use Rattle.tables.specs.Tables.{fileAt}
 use Rattle.store.proofs.Sequences.{Facts.{AttributesFit, Early, NamespaceConsistent, PendingFits}, Granted.grant-ends, Located.{MissingFits, PlaceFits, SearchFits, StreamThere, located-ends, searched, unnamed-ends}, Requested.{RequestFits, archived, attributes-new, granted-new, replaced, requested}}
-use Rattle.store.specs.{Prepare.{Existing, Pending, ReadSharing, admit, admitExisting, admitFile, admitOpen, admitReplace, admitStream, asOffered, fileNew, gained, newType, prepare, replacement}, Request.{wantsDirectory, wantsFile}, Target.{Target, existingDirectory, existingStream, missingFile, missingStream, target, targetAt, targetData, targetDirectory, targetFound, targetNew, wrongType}}
+use Rattle.store.specs.{Prepare.{Existing, Pending, ReadSharing, admit, admitExisting, admitFile, admitOpen, admitReplace, admitStream, asOffered, fileNew, gained, newType, prepare, replacement}, Request.{deletesOnClose, wantsDirectory, wantsFile}, Target.{Target, existingDirectory, existingStream, missingFile, missingStream, target, targetAt, targetData, targetDirectory, targetFound, targetNew, wrongType}}
 
 -- a status by a test
 early-cond : (b : Bool) (x y : Status) → Early (record { status = x }) → Early (record { status = y })
@@ -57,11 +57,12 @@ module _ (ns : Namespace) (r : Request) (ok : NamespaceConsistent ns) where
   -- step 11
   data-ends : (at : Resolved) (leaf : Leaf) (o : Option StreamNo) → DataFile ns (at .file)
       → validStreamName streamNameLimit (leaf .stream) ≡ true → SearchFits ns (r .fold) (at .file) (leaf .stream) o
-      → Ends Early (TargetFits ns r) (targetData r at leaf o)
+      → Ends Early (TargetFits ns r) (targetData ns r at leaf o)
   unfolding targetData statusNumber
   data-ends at leaf none dataFile valid new =
       ends-test _ _ (refl, refl) (λ e. goes (dataFile, record { nameValid = valid; nameNew = new }))
-  data-ends at leaf (some s) dataFile valid there = ends-test _ _ (refl, refl) (λ e. goes (dataFile, there))
+  data-ends at leaf (some s) dataFile valid there =
+      ends-test _ _ (refl, refl) (λ m. ends-test _ _ (refl, refl) (λ e. goes (dataFile, there)))
 
   place-ends : (leaf : Leaf) (p : Place) → LeafFits (wantsDirectory r) leaf → PlaceFits ns (r .fold) (wantsDirectory r) p
       → Ends Early (TargetFits ns r) (targetAt ns r leaf p)
@@ -116,15 +117,22 @@ module _ (ns : Namespace) (r : Request) (ok : NamespaceConsistent ns) (fits : Re
   existing-ends : (e : Existing) → fileUsed (fileAt (ns .files) (e .file)) ≡ true → StreamThere ns (e .file) (e .stream)
       → e .terms .granted ≢ 0
       → ((a : ℕ) → e .attributes ≡ some a → AttributesFit ns (e .file) a)
-      → Ends Early (PendingFits ns) (admitExisting ns r e)
+      → Ends Early (PendingFits ns (deletesOnClose r)) (admitExisting ns r e)
   unfolding admitExisting
   existing-ends e used there asked attributes =
       ends-bind (grant-ends ns r (e .file) (e .terms .granted) ok fits used asked)
       (λ terms g.
-      goes (record { terms = g; streamUsed = there .streamUsed; streamFile = there .streamFile; attributes = attributes }))
+      goes
+      (record {
+        terms = g .0;
+        streamUsed = there .streamUsed;
+        streamFile = there .streamFile;
+        attributes = attributes;
+        rootStays = g .1;
+      }))
 
   open-ends : (f : FileNo) (s : StreamNo) (sharing : ReadSharing) → fileUsed (fileAt (ns .files) f) ≡ true
-      → StreamThere ns f s → Ends Early (PendingFits ns) (admitOpen ns r f s sharing)
+      → StreamThere ns f s → Ends Early (PendingFits ns (deletesOnClose r)) (admitOpen ns r f s sharing)
   unfolding admitOpen
   open-ends f s sharing used there = existing-ends _ used there (fits .accessNonzero) (λ a e. absurd (none≢some e))
 
@@ -135,7 +143,7 @@ module _ (ns : Namespace) (r : Request) (ok : NamespaceConsistent ns) (fits : Re
   replacement-fits f false a dataFile e = absurd (none≢some e)
 
   replace-ends : (f : FileNo) (s : StreamNo) (unnamed : Bool) → DataFile ns f → StreamThere ns f s
-      → Ends Early (PendingFits ns) (admitReplace ns r f s unnamed)
+      → Ends Early (PendingFits ns (deletesOnClose r)) (admitReplace ns r f s unnamed)
   unfolding admitReplace statusNumber
   replace-ends f s unnamed dataFile there =
       ends-test _ _ (refl, refl)
@@ -145,7 +153,7 @@ module _ (ns : Namespace) (r : Request) (ok : NamespaceConsistent ns) (fits : Re
 
   -- step 11, stream missing
   stream-ends : (f : FileNo) (leaf : Leaf) → DataFile ns f → StreamMissing ns (r .fold) f (leaf .stream)
-      → Ends Early (PendingFits ns) (admitStream ns r f leaf)
+      → Ends Early (PendingFits ns (deletesOnClose r)) (admitStream ns r f leaf)
   unfolding admitStream statusNumber
   stream-ends f leaf dataFile new =
       let old =
@@ -164,22 +172,25 @@ module _ (ns : Namespace) (r : Request) (ok : NamespaceConsistent ns) (fits : Re
           fold = r .fold;
           nameNew = new .nameNew;
         },
-        g,
+        g .0,
       )))
 
   -- step 9
   file-ends : (dir : FileNo) (leaf : Leaf) → MissingFits ns (r .fold) (wantsDirectory r) dir leaf
-      → Ends Early (PendingFits ns) (admitFile ns r dir leaf)
+      → Ends Early (PendingFits ns (deletesOnClose r)) (admitFile ns r dir leaf)
   unfolding admitFile fileNew fileUsed newType isUsed isDirectory statusNumber
   file-ends dir leaf new =
       let parent = fileAt (ns .files) dir in
       ends-test _ _ (refl, refl)
       (λ t.
       ends-test _ _ (refl, refl)
+      (λ k.
+      ends-test _ _ (refl, refl)
       (λ m.
       goes (
         record {
-          parent = new .parent;
+          parent = new .parent .directory;
+          parentStays = new .parent .unmarked;
           nameValid = new .nameValid;
           fold = r .fold;
           nameNew = new .nameNew;
@@ -188,12 +199,13 @@ module _ (ns : Namespace) (r : Request) (ok : NamespaceConsistent ns) (fits : Re
           good =
               record {
                 attributes = attributes-new r parent;
-                masksWithin = file-good (ok .files) dir (directory-used (parent .«file_type») (new .parent)) .masksWithin;
+                masksWithin = file-good (ok .files) dir (directory-used (parent .«file_type») (new .parent .directory)) .masksWithin;
               };
+          unmarked = refl;
           directoryUnnamed = λ e. new .leafFits .unnamed (no-colon (wantsDirectory r) (new .leafFits .noColon) e);
         },
         granted-new r fits,
-      )))
+      ))))
     where
       type-used : (b : Bool) → isUsed (cond b Directory Data) ≡ true
       type-used true = refl
@@ -203,7 +215,7 @@ module _ (ns : Namespace) (r : Request) (ok : NamespaceConsistent ns) (fits : Re
       no-colon true e d = e
       no-colon false e d = absurd (false≢true d)
 
-  admit-ends : (t : Target) → TargetFits ns r t → Ends Early (PendingFits ns) (admit ns r t)
+  admit-ends : (t : Target) → TargetFits ns r t → Ends Early (PendingFits ns (deletesOnClose r)) (admit ns r t)
   unfolding admit
   admit-ends (existingDirectory at s) (used, there) = open-ends (at .file) s _ used there
   admit-ends (existingStream at leaf s) (dataFile, there) =
@@ -214,11 +226,11 @@ module _ (ns : Namespace) (r : Request) (ok : NamespaceConsistent ns) (fits : Re
   admit-ends (missingFile dir leaf) new = file-ends dir leaf new
 
 pub prepare-ends : (ns : Namespace) (r : Request) (units : List ℕ) → NamespaceConsistent ns
-    → Ends Early (PendingFits ns) (prepare ns r units)
+    → Ends Early (PendingFits ns (deletesOnClose r)) (prepare ns r units)
 unfolding prepare
 prepare-ends ns r units ok =
     ends-bind (target-ends ns r ok units) (λ t fits. admit-ends ns r ok (fits .0) t (fits .1))
 
 pub prepared : (ns : Namespace) (r : Request) (units : List ℕ) (p : Pending) → NamespaceConsistent ns
-    → prepare ns r units ≡ passed p → PendingFits ns p
+    → prepare ns r units ≡ passed p → PendingFits ns (deletesOnClose r) p
 prepared ns r units p ok e = went (rw e at (prepare-ends ns r units ok))

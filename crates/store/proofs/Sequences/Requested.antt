@@ -1,8 +1,8 @@
 -- What steps 1 and 2 leave of a request's numbers, and the numbers that steps 9 and 11 make of them.
-use Rattle.base.{specs.Base.{_≤_, ℕ, has, within, without, oneOf, allAccess, appendData, archive, directory, fileAttributes, maximumAllowed, notContentIndexed, overwrite, overwriteIf, supersede, isDirectory, File, Data, Directory, Request, bitAnd, bitOr, eqb, ltb, Bool, _&&_, _||_, cond, false, not, true, [], _∷_, _≢_, _≡_}, proofs.Laws.{or-neither, eqb-false, not-false, ltb-false, _∙_, ap₂, refl, arith}}
+use Rattle.base.{specs.Base.{_≤_, ℕ, has, within, without, oneOf, allAccess, appendData, archive, delete, directory, fileAttributes, maximumAllowed, notContentIndexed, overwrite, overwriteIf, supersede, isDirectory, File, Data, Directory, Request, bitAnd, bitOr, eqb, ltb, Bool, _&&_, _||_, cond, false, not, true, [], _∷_, _≢_, _≡_}, proofs.Laws.{or-neither, eqb-false, not-false, ltb-false, _∙_, ap₂, refl, arith}}
 use Rattle.bits.proofs.Sets.{has-iff-false, has-meets, has-or, has-subset, within-and-r, within-iff, within-less, within-mono, within-or, within-self, within-split, without-clears}
 use Rattle.consistency.specs.Good.{GoodAttributes, GoodTerms}
-use Rattle.store.specs.{Prepare.{attributesNew, grantedNew, newType}, Request.{badAccess, badParameters, wantsDirectory}}
+use Rattle.store.specs.{Prepare.{attributesNew, grantedNew, newType}, Request.{badAccess, badParameters, deletesOnClose, wantsDirectory}}
 
 pub record RequestFits (r : Request) : Type 0 where
   pub accessNonzero : r .access ≢ 0
@@ -16,13 +16,15 @@ requested r p q =
     let a = ltb 7 (r .account) in
     let b = ltb 7 (r .share) in
     let c = ltb 5 (r .disposition) in
-    let d = not (within (r .options) 0x2004F) in
+    let d = not (within (r .options) 0x2104F) in
     let e = not (within (r .attributes) 0x31A7) in
     let f = not (within (r .access) 0x0FFFFFFF) in
     let g = has (r .options) 0x8 && has (r .access) appendData in
+    let i = deletesOnClose r && not (has (r .access) delete) in
     let h =
     wantsDirectory r && (has (r .options) 0x2000C || oneOf (r .disposition) (supersede ∷ overwrite ∷ overwriteIf ∷ [])) in
-    let p7 = or-neither (a || b || c || d || e || f || g) h p in
+    let p8 = or-neither (a || b || c || d || e || f || g || i) h p in
+    let p7 = or-neither (a || b || c || d || e || f || g) i (p8 .0) in
     let p6 = or-neither (a || b || c || d || e || f) g (p7 .0) in
     let p5 = or-neither (a || b || c || d || e) f (p6 .0) in
     let p4 = or-neither (a || b || c || d) e (p5 .0) in

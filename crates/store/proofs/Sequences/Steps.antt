@@ -1,10 +1,10 @@
 -- Each kind of call keeps tables and model related, and is answered alike.
-use Rattle.base.{specs.Base.{_<_, suc, ℕ, Permutation, any, both, find, keep, skip, writes, Checked, Refusal, _>>=_, _>>_, passed, refuseIf, refused, someOr, shareRead, Namespace, bareAt, bareUsed, namespace, seen, statusNumber, openUsed, zeroOpen, Step, Tables, concluded, Terms, termsOf, Handle, Open, Request, FileCorruptError, InvalidHandle, StreamNo, length, set, Bool, _&&_, false, not, true, List, _∷_, _⊎_, inl, inr, Option, none, some, _≡_, done}, proofs.Laws.{none-too, perm-apart, perm-sym, Ends, goes, stops, ⊎-elim, _∙_, refl, subst, sym, ap}}
-use Rattle.consistency.{proofs.{Derived.free-unopened, Equivalence.consistent-iff}, specs.Consistent.{Consistent, CountsTrue, FilesConsistent, LinksConsistent, NoConflicts, OpensConsistent, StreamsConsistent, openAt}}
-use Rattle.sharing.{proofs.Check.any-conflict-perm, specs.Sharing.{anyConflict, conflict, onStream, withoutOpen}}
-use Rattle.tables.specs.Tables.{live}
-use Rattle.store.proofs.Sequences.{Completed.{DecisionFits, Unopposed, decide-ends}, Facts.{Joins, NamespaceConsistent, Other, namespace-of}, Opens.{Close.{Struck, handle-is, handle-used, one-handle, others-kept, struck}, Conflicts.share-more, Counts.{counts-joined, counts-left, counts-written}, Join.{conflicts-joined, joined, joined-live, joins-used}, Leave.{conflicts-left, left, left-live}, Names.{changed-names, used-below, with-open-names, without-open-names}, Table.opens-kept}, Views.{Related, closing-alike, decided-alike, room-same}}
-use Rattle.store.specs.{Calls.{Call, closes, modelStep, opens, setsReadOnly, storeStep}, Complete.{Change, Closing, Decision, changed, decide, decideClose, newOpen, nextHandle, noChange, withShareRead}, Model.{Model, modelClose, modelClosed, modelOpen, modelOpened, modelSetReadOnly, modelView, namespaceMarked}, Sequences.{handleOf, isCorrupt}, Store.{changedVolume, closed, hasHandle, opened, recount, storeClose, storeOpen, storeSetReadOnly, storeView, volumeMarked, volumeWithOpen, volumeWithoutOpen, whenConsistent}}
+use Rattle.base.{specs.Base.{_<_, suc, ℕ, Permutation, any, both, find, skip, Checked, Refusal, _>>=_, _>>_, passed, refuseIf, refused, someOr, shareRead, Namespace, bareAt, bareUsed, namespace, seen, statusNumber, openUsed, Step, Tables, concluded, Terms, termsOf, Handle, Open, Request, FileCorruptError, InvalidHandle, StreamNo, length, Bool, _&&_, false, not, true, List, _∷_, _⊎_, inl, inr, Option, none, some, _≡_, done}, proofs.Laws.{none-too, or-right, perm-any, Ends, goes, stops, ⊎-elim, _∙_, refl, subst, sym, ap}}
+use Rattle.consistency.{proofs.{Derived.free-unopened, Equivalence.consistent-iff}, specs.Consistent.{Consistent, CountsTrue, MarksHeld, OpensConsistent}}
+use Rattle.sharing.{proofs.Check.any-conflict-perm, specs.Sharing.{anyConflict, conflict, onStream}}
+use Rattle.tables.specs.Tables.{live, anyOnFile, anyOnStream}
+use Rattle.store.proofs.Sequences.{Closed.close-related, Completed.{DecisionFits, Unopposed, decide-ends}, Facts.{Joins, Other, namespace-of}, Opens.{Close.struck, Conflicts.share-more, Counts.{counts-joined, counts-written}, Join.{conflicts-joined, joined, joined-live, joins-used}, Names.{changed-names, used-below, with-open-names}, Table.opens-kept}, Related.{Related, closing-alike, consistent-with}, Views.{decided-alike, room-same}}
+use Rattle.store.specs.{Calls.{Call, closes, modelStep, opens, setsReadOnly, storeStep}, Close.decideClose, Complete.{Decision, changed, decide, newOpen, nextHandle, withShareRead}, Model.{Model, modelClose, modelClosed, modelOpen, modelOpened, modelSetReadOnly, modelSettled, modelStruck, modelView, namespaceMarked}, Sequences.{handleOf, isCorrupt}, Store.{changedVolume, closed, hasHandle, opened, storeClose, storeOpen, storeSetReadOnly, storeView, volumeMarked, volumeWithOpen, whenConsistent}}
 
 -- a step of the model from m issues the next handle, or none
 abbrev pub Issues : Model → Step Model → Type 0
@@ -18,23 +18,6 @@ pub record Together (m : Model) (s : Step Tables) (s′ : Step Model) : Type 0 w
   pub relatedAfter : Related (s .state) (s′ .state)
   pub neverCorrupt : isCorrupt (s′ .reply) ≡ false
   pub issues : Issues m s′
-
--- tables whose namespace is this
-consistent-with : (t : Tables) (ns : Namespace) → namespace (t .volume) ≡ ns → NamespaceConsistent ns
-    → OpensConsistent (ns .streams) (t .volume .«next_handle» .0) (t .opens .rows)
-    → CountsTrue (t .volume .streams) (t .opens .rows)
-    → NoConflicts (t .opens .rows)
-    → Consistent (t .volume) (t .opens)
-unfolding namespace
-consistent-with t ns e n o c a =
-    record {
-      files = subst (λ (x : Namespace). FilesConsistent (x .files)) (sym e) (n .files);
-      links = subst (λ (x : Namespace). LinksConsistent (x .files) (x .links)) (sym e) (n .links);
-      streams = subst (λ (x : Namespace). StreamsConsistent (x .files) (x .streams)) (sym e) (n .streams);
-      opens = subst (λ (x : Namespace). OpensConsistent (x .streams) (t .volume .«next_handle» .0) (t .opens .rows)) (sym e) o;
-      counts = c;
-      conflicts = a;
-    }
 
 -- no open on a stream, none that conflicts there
 none-on-stream : (s : StreamNo) (t : Terms) (os : List Open) → any (onStream s) os ≡ false → anyConflict s t os ≡ false
@@ -97,6 +80,25 @@ module _ {t : Tables} {m : Model} (related : Related t m) (d : Decision) (fits :
           (ap (λ (ns : Namespace). bareUsed (bareAt (ns .streams) (o .stream))) (changed-names (d .placed .change) (t .volume))
           ∙ fits .joins .good .namesUsedStream)
 
+  live-after : Permutation (live (after .opens .rows)) (o ∷ live (t .opens .rows))
+  unfolding opened
+  live-after = joined-live o (t .opens .rows) roomy (joins-used joins-next (was .nextAtLeast))
+
+  -- no mark has come, and the opens that hold the marks are still there
+  still-open : (p : Open → Bool) → any p (live (t .opens .rows)) ≡ true → any p (live (after .opens .rows)) ≡ true
+  unfolding any
+  still-open p h = perm-any p live-after ∙ or-right (p o) h
+
+  held-after : let ns = changed (d .placed .change) (namespace (t .volume)) in
+      MarksHeld (ns .files) (ns .streams) (after .opens .rows)
+  unfolding namespace anyOnFile anyOnStream
+  held-after =
+      let held = related .consistentTables .held in
+      record {
+        files = λ f u. still-open _ (held .files f (fits .marksKept f u));
+        streams = λ s u. still-open _ (held .streams s (fits .kept .marksKept s u));
+      }
+
   pub open-related : Related after (modelOpened m d .state)
   unfolding opened modelOpened
   open-related =
@@ -105,66 +107,10 @@ module _ {t : Tables} {m : Model} (related : Related t m) (d : Decision) (fits :
       record {
         consistentTables =
             consistent-with after (changed (d .placed .change) (namespace (t .volume))) namespace-after (fits .after)
-            (rw next-after opens) counts-after conflicts;
-        opensAreEntries =
-            both (joined-live o (t .opens .rows) roomy (joins-used joins-next (was .nextAtLeast))) (skip o (related .opensAreEntries));
+            (rw next-after opens) counts-after conflicts held-after;
+        opensAreEntries = both live-after (skip o (related .opensAreEntries));
         sameNamespace = namespace-after ∙ ap (changed (d .placed .change)) (related .sameNamespace);
         nextHandle = next-after ∙ ap suc (related .nextHandle);
-      }
-
--- an open that a close strikes
-module _ {t : Tables} {m : Model} (related : Related t m) (h : Handle) (c : Closing) (s : Struck h (c .struck) (t .opens .rows))
-    (unchanged : c .change ≡ noChange) where
-  abbrev left-tables : Tables
-  left-tables = closed t c .state
-
-  rows-left : left-tables .opens .rows ≡ set (t .opens .rows) (s .slot) zeroOpen
-  unfolding closed
-  rows-left = s .rows
-
-  used : openUsed (openAt (t .opens .rows) (s .slot)) ≡ true
-  used = ap openUsed (s .there) ∙ handle-used h (c .struck) (s .has)
-
-  closed-namespace : namespace (left-tables .volume) ≡ namespace (t .volume)
-  unfolding closed changed writes
-  closed-namespace =
-      changed-names (c .change) _ ∙ ap (λ (x : Change). changed x (namespace (volumeWithoutOpen (c .struck) (t .volume)))) unchanged
-      ∙ without-open-names _ _
-
-  closed-counts : CountsTrue (left-tables .volume .streams) (left-tables .opens .rows)
-  unfolding closed changedVolume volumeWithoutOpen namespace
-  closed-counts =
-      counts-written (c .change .streams) _ _
-      (subst (λ (os : List Open). CountsTrue (recount (withoutOpen (c .struck)) (c .struck .stream) (t .volume .streams)) os) (sym rows-left)
-      (subst (λ (q : Open). CountsTrue (recount (withoutOpen q) (q .stream) (t .volume .streams)) (set (t .opens .rows) (s .slot) zeroOpen)) (s .there)
-      (counts-left (t .volume .streams) (t .opens .rows) (s .slot) (s .below) used
-      (used-below (t .volume .streams) (openAt (t .opens .rows) (s .slot) .stream)
-      (related .consistentTables .opens .slots .usedGood (s .slot) used .namesUsedStream))
-      (related .consistentTables .counts))))
-
-  close-related : Related left-tables (modelClosed m c .state)
-  unfolding closed modelClosed changedVolume volumeWithoutOpen changed writes
-  close-related =
-      let opens = related .consistentTables .opens in
-      let kept : Permutation (live (t .opens .rows)) (c .struck ∷ live (set (t .opens .rows) (s .slot) zeroOpen)) =
-      subst (λ (q : Open). Permutation (live (t .opens .rows)) (q ∷ live (set (t .opens .rows) (s .slot) zeroOpen))) (s .there)
-      (left-live (t .opens .rows) (s .slot) (s .below) used) in
-      record {
-        consistentTables =
-            consistent-with left-tables (namespace (t .volume)) closed-namespace
-            (namespace-of (related .consistentTables)) (subst (λ (os : List Open). OpensConsistent (namespace (t .volume) .streams) (t .volume .«next_handle» .0) os) (sym rows-left)
-            (left opens (s .slot)))
-            closed-counts
-            (subst NoConflicts (sym rows-left) (conflicts-left (t .opens .rows) (related .consistentTables .conflicts) (s .slot)));
-        opensAreEntries =
-            rw rows-left
-            (subst (λ (k : Handle). Permutation (live (set (t .opens .rows) (s .slot) zeroOpen)) (keep (λ q. not (hasHandle k q)) (m .entries)))
-            (sym (handle-is h (c .struck) (s .has)))
-            (others-kept h (c .struck) (live (set (t .opens .rows) (s .slot) zeroOpen)) (both (perm-sym (related .opensAreEntries)) kept) (s .has)
-            (sym (perm-apart (hasHandle h) kept) ∙ one-handle h opens)));
-        sameNamespace =
-            closed-namespace ∙ related .sameNamespace ∙ ap (λ (x : Change). changed x (m .namespace)) (sym unchanged);
-        nextHandle = related .nextHandle;
       }
 
 module _ {t : Tables} {m : Model} (related : Related t m) where
@@ -207,11 +153,12 @@ module _ {t : Tables} {m : Model} (related : Related t m) where
       (decide-ends (modelView m) (namespace (t .volume)) r units (namespace-of (related .consistentTables))))))
 
   close-together : (h : Handle) → Together m (storeStep t (closes h)) (modelStep m (closes h))
-  unfolding storeStep modelStep storeClose modelClose decideClose storeView someOr _>>=_ concluded closed modelClosed isCorrupt seen statusNumber handleOf
+  unfolding storeStep modelStep storeClose modelClose decideClose storeView someOr _>>=_ concluded closed modelClosed
+      modelSettled modelStruck isCorrupt seen statusNumber handleOf
   close-together h =
       unhindered _ _
       (subst
-      (λ (c : Checked Closing). Together m (concluded t (decideClose (storeView t) h >>= (λ q. passed (closed t q)))) (concluded m (c >>= (λ q. passed (modelClosed m q)))))
+      (λ (c : Checked Open). Together m (concluded t (decideClose (storeView t) h >>= (λ q. passed (closed t q)))) (concluded m (c >>= (λ q. passed (modelClosed m q)))))
       (closing-alike related h) (struck-together (find (hasHandle h) (t .opens .rows)) refl))
     where
       struck-together : (o : Option Open) → find (hasHandle h) (t .opens .rows) ≡ o
@@ -219,11 +166,10 @@ module _ {t : Tables} {m : Model} (related : Related t m) where
           (concluded m (decideClose (storeView t) h >>= (λ q. passed (modelClosed m q))))
       struck-together none e = rw (e, decideClose) (refused-together (record { status = InvalidHandle }) refl)
       struck-together (some o) e =
-          let c : Closing = record { struck = o; change = noChange } in
           rw (e, decideClose)
           (record {
             sameReply = refl;
-            relatedAfter = close-related related h c (struck h o (t .opens .rows) e) refl;
+            relatedAfter = close-related related h o (struck h o (t .opens .rows) e);
             neverCorrupt = refl;
             issues = inl (λ hs. refl, refl);
           })
@@ -238,7 +184,16 @@ module _ {t : Tables} {m : Model} (related : Related t m) where
         relatedAfter =
             record {
               consistentTables =
-                  record { files = was .files; links = was .links; streams = was .streams; opens = was .opens; counts = was .counts; conflicts = was .conflicts };
+                  record {
+                    files = was .files;
+                    links = was .links;
+                    streams = was .streams;
+                    opens = was .opens;
+                    counts = was .counts;
+                    conflicts = was .conflicts;
+                    marks = was .marks;
+                    held = was .held;
+                  };
               opensAreEntries = related .opensAreEntries;
               sameNamespace = ap (namespaceMarked b) (related .sameNamespace);
               nextHandle = related .nextHandle;

@@ -4,7 +4,7 @@ use Rattle.consistency.{proofs.{Opens.agree-iff, Slots.two-iff}, specs.{Good.{O
 use Rattle.format.{proofs.Fresh.fresh-consistent, specs.Format.{checkedMasks, format, freshTables, freshVolume, rightLengths}}
 use Rattle.sharing.{proofs.{Counts.counts-perm, PairRule.conflicting-sym}, specs.Sharing.countsOf}
 use Rattle.tables.specs.Tables.{streamAt, live}
-use Rattle.store.proofs.Sequences.{Steps.{Issues, together}, Views.Related, Violation.{from-check, share-right, violation}}
+use Rattle.store.proofs.Sequences.{Related.Related, Steps.{Issues, together}, Violation.{from-check, share-right, violation}}
 use Rattle.store.specs.{Calls.{Call, Run, modelStep, run, storeStep}, Complete.nextHandle, Model.{Model, freshModel, modelFormat}, Sequences.{Agree, EverySequence, handleOf, isCorrupt, issued, numbersFrom}}
 
 refused≢done : {s : Status} → Refused s ≡ Done → ⊥

@@ -4,8 +4,8 @@ use Rattle.base.{specs.Base.{ℕ, Checked, Refusal, _>>=_, passed, refused, Nam
 use Rattle.consistency.specs.Consistent.{Consistent}
 use Rattle.sharing.specs.Sharing.{anyConflict, shareCheck}
 use Rattle.tables.specs.Tables.{streamAt}
-use Rattle.store.proofs.Sequences.{Completed.{DecisionFits, Late, complete-ends, not-sharing}, Facts.{Early, PendingFits, namespace-of}, Opens.Names.used-below, Prepared.{prepare-ends, prepared}, Steps.when-consistent, Views.{Related, conflicts-agree}}
-use Rattle.store.specs.{Complete.{Decision, complete, decide}, Model.Model, Prepare.{Existing, Pending, existing, prepare}, Store.{opened, storeOpen, storeView}}
+use Rattle.store.proofs.Sequences.{Completed.{DecisionFits, Late, complete-ends, not-sharing}, Facts.{Early, PendingFits, namespace-of}, Opens.Names.used-below, Prepared.{prepare-ends, prepared}, Steps.when-consistent, Related.Related, Views.conflicts-agree}
+use Rattle.store.specs.{Complete.{Decision, complete, decide}, Model.Model, Prepare.{Existing, Pending, existing, prepare}, Request.deletesOnClose, Store.{opened, storeOpen, storeView}}
 
 -- only a refused decision is answered by a refusal
 refused-by : (t : Tables) (c : Checked Decision) (s : Status)
@@ -30,12 +30,12 @@ module _ (t : Tables) (ok : Consistent (t .volume) (t .opens)) (r : Request) (un
       let q = refused-by t _ SharingViolation (sym (ap (λ (s : Step Tables). s .reply .outcome) answers) ∙ o) in
       go (prepare ns r units) refl (prepare-ends ns r units (namespace-of ok)) (q .0) (q .1) (q .2)
     where
-      go : (c : Checked Pending) → prepare ns r units ≡ c → Ends Early (PendingFits ns) c → (s : Refusal)
-          → (c >>= complete (storeView t) ns) ≡ refused s → s .status ≡ SharingViolation
+      go : (c : Checked Pending) → prepare ns r units ≡ c → Ends Early (PendingFits ns (deletesOnClose r)) c → (s : Refusal)
+          → (c >>= complete (storeView t) ns (deletesOnClose r)) ≡ refused s → s .status ≡ SharingViolation
           → (e : Existing) × (prepare ns r units ≡ passed (existing e)) × (storeView t .conflicts (e .stream) (e .terms) ≡ true)
       go (refused q) p h s e v = absurd (not-sharing q (stopped h) (ap (λ (x : Refusal). x .status) (refused-same e) ∙ v))
       go (passed x) p h s e v =
-          let late = stopped (subst (Ends (Late (storeView t) x) (DecisionFits ns (storeView t))) e (complete-ends (storeView t) ns x (namespace-of ok) (went h))) in
+          let late = stopped (subst (Ends (Late (storeView t) x) (DecisionFits ns (storeView t))) e (complete-ends (storeView t) ns (deletesOnClose r) x (namespace-of ok) (went h))) in
           let w = late .sharing v in
           (w .0, p ∙ ap passed (w .1), w .2)
 
@@ -51,7 +51,7 @@ module _ (t : Tables) (ok : Consistent (t .volume) (t .opens)) (r : Request) (un
         ap (λ (s : Step Tables). s .reply .outcome)
         (answers
         ∙ ap (λ (x : Checked Decision). concluded t (x >>= (λ d. passed (opened t d))))
-        (bind-of (complete (storeView t) ns) reaches ∙ test-refuses SharingViolation _ c)),
+        (bind-of (complete (storeView t) ns (deletesOnClose r)) reaches ∙ test-refuses SharingViolation _ c)),
   )
     where
       existing-same : {x y : Existing} → existing x ≡ existing y → x ≡ y

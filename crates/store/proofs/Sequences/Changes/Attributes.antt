@@ -1,19 +1,16 @@
 -- New attributes of a data file: consistent names stay so.
-use Rattle.base.{specs.Base.{_<_, ℕ, writes, Namespace, fileUsed, isDirectory, isUsed, root, File, FileNo, length, set, Bool, true, List, _≢_, some, _≡_}, proofs.Laws.{true≢false, _∙_, ap, refl, subst, sym, ℕ-discrete}}
+use Rattle.base.{specs.Base.{_<_, ℕ, writes, Namespace, fileUsed, isDirectory, isUsed, root, zeroFile, File, FileNo, getD, length, set, Bool, true, List, _≢_, some, _≡_}, proofs.Laws.{true≢false, set-placed, _∙_, ap, refl, subst, sym}}
 use Rattle.consistency.{proofs.{Derived.file-good, Numbered.{file-in, same-file}}, specs.{Good.{GoodAttributes, GoodFile}, Relations.typeAt}}
 use Rattle.tables.specs.Tables.{fileAt}
-use Rattle.store.proofs.Sequences.{Changes.{Files.{file-at-new, file-at-other, files-with}, Types.{SameType, is-data, links-kept, streams-kept}}, Facts.{AttributesFit, NamespaceConsistent}}
+use Rattle.store.proofs.Sequences.{Changes.{Marks.{marks-kept, marks-with}, Files.files-with, Types.{SameType, is-data, links-kept, streams-kept}}, Facts.{AttributesFit, MarksKept, NamespaceConsistent}}
 use Rattle.store.specs.Complete.{attributeChange, changed, withAttributes}
 
 -- a file written anew with its type
-module _ (fs : List File) (f : FileNo) (file : File) (below : f .0 < length fs) where
-  pub same-types : file .«file_type» ≡ typeAt fs f → (g : FileNo) → SameType fs (set fs (f .0) file) g
-  same-types e g = go (ℕ-discrete (g .0) (f .0))
-    where
-      go : Dec (g .0 ≡ f .0) → SameType fs (set fs (f .0) file) g
-      go (yes q) =
-          rw (same-file g f q) (ap (λ (x : File). x .«file_type») (file-at-new fs f file below) ∙ e)
-      go (no q) = ap (λ (x : File). x .«file_type») (file-at-other fs f file below g q)
+pub same-types : (fs : List File) (f : FileNo) (file : File) → file .«file_type» ≡ typeAt fs f
+    → (g : FileNo) → SameType fs (set fs (f .0) file) g
+unfolding fileAt
+same-types fs f file e g =
+    set-placed zeroFile (λ j x. x .«file_type» ≡ getD fs j zeroFile .«file_type») fs (f .0) file e (λ j. refl) (g .0)
 
 module _ (ns : Namespace) (f : FileNo) (a : ℕ) (h : NamespaceConsistent ns) (fit : AttributesFit ns f a) where
   used : fileUsed (fileAt (ns .files) f) ≡ true
@@ -32,7 +29,7 @@ module _ (ns : Namespace) (f : FileNo) (a : ℕ) (h : NamespaceConsistent ns) (f
   below = file-in (ns .files) f used
 
   -- the root is a directory
-  not-root : f .0 ≢ 0
+  pub not-root : f .0 ≢ 0
   unfolding isDirectory
   not-root e =
       true≢false
@@ -40,13 +37,19 @@ module _ (ns : Namespace) (f : FileNo) (a : ℕ) (h : NamespaceConsistent ns) (f
       ∙ ap (λ (g : FileNo). isDirectory (typeAt (ns .files) g)) (sym (same-file f root e))
       ∙ ap isDirectory (is-data _ (fit .dataFile)))
 
+  -- a file keeps its mark
+  pub attributes-unmarked : MarksKept (ns .files) (changed (attributeChange ns f (some a)) ns .files)
+  unfolding changed attributeChange writes withAttributes
+  attributes-unmarked = marks-kept (ns .files) f _ (λ u. u)
+
   pub attributes-kept : NamespaceConsistent (changed (attributeChange ns f (some a)) ns)
   unfolding changed attributeChange writes withAttributes fileUsed
   attributes-kept =
       let file = withAttributes a (fileAt (ns .files) f) in
-      let same = same-types (ns .files) f file below refl in
+      let same = same-types (ns .files) f file refl in
       record {
         files = files-with (ns .files) f file below (h .files) used good not-root;
         links = links-kept (ns .files) (set (ns .files) (f .0) file) same (ns .links) (h .links);
         streams = streams-kept (ns .files) (set (ns .files) (f .0) file) same (ns .streams) (h .streams);
+        marks = marks-with (h .marks) attributes-unmarked (λ g u c. c);
       }

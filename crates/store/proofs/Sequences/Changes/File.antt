@@ -1,11 +1,11 @@
 -- A file that a directory gains: its placing leaves consistent names.
-use Rattle.base.{specs.Base.{_≤_, suc, all, isEmpty, writes, BareStream, Namespace, bareAt, bareUsed, zeroBare, fileNameLimit, streamNameLimit, fileUsed, isDirectory, linkUsed, root, streamUsed, zeroFile, zeroLink, File, FileNo, LinkNo, StreamNo, set, false, true, List, [], _∷_, _≢_, _≡_}, proofs.Laws.{refuted, not-both, not-is, set-each, FreeSlot, free-stays, Ends, ends-bind, ends-cond, goes, ne-eqb, _∙_, ap, refl, sym, arith}}
-use Rattle.consistency.{proofs.Numbered.directory-file, specs.{Consistent.StreamsConsistent, Relations.typeAt}}
+use Rattle.base.{specs.Base.{_≤_, suc, all, isEmpty, writes, BareStream, Namespace, bareAt, bareUsed, zeroBare, fileNameLimit, streamNameLimit, fileUsed, isDirectory, linkUsed, root, streamUsed, zeroFile, zeroLink, File, FileNo, LinkNo, StreamNo, set, false, true, List, [], _∷_, _≢_, _≡_}, proofs.Laws.{refuted, not-both, not-is, none-set, set-each, FreeSlot, free-stays, Ends, ends-bind, ends-cond, goes, ne-eqb, _∙_, ap, refl, sym, arith}}
+use Rattle.consistency.{proofs.{Numbered.directory-file, Relations.child-of-iff}, specs.{Consistent.StreamsConsistent, Relations.{childOf, hasChildren, typeAt}}}
 use Rattle.names.specs.Names.{validFileName}
 use Rattle.paths.specs.Paths.{Leaf}
 use Rattle.stored_names.{proofs.Padded.{file-name-units, padded-begins, padded-stored, units-padded}, specs.StoredNames.units}
 use Rattle.tables.specs.Tables.{fileAt}
-use Rattle.store.proofs.Sequences.{Changes.{Files.{FileAdded, file-at-new, file-at-other, files-with, not-added, used-kept}, Free.{file-free, link-free, stream-free}, Links.{LinkSound, links-with}, NewStream.{StreamMade, named-sound, no-stream, unnamed-sound}, Relations.link-name-new, Streams.{kept-both, stream-kept, stream-there, streams-with}}, Facts.{Early, FileFits, NamespaceConsistent, PlacedWell, StreamsKept}}
+use Rattle.store.proofs.Sequences.{Changes.{Files.{FileAdded, file-at-new, file-at-other, files-with, not-added, used-kept}, Free.{file-free, link-free, stream-free}, Links.{LinkSound, links-with}, Marks.{marks-kept, marks-with}, NewStream.{StreamMade, named-sound, no-stream, unnamed-sound}, Relations.link-name-new, Streams.{kept-both, stream-kept, stream-there, streams-with}}, Facts.{Early, FileFits, MarksKept, NamespaceConsistent, PlacedWell, StreamsKept}}
 use Rattle.store.specs.{Complete.{changed, linkNew, place, placeFile, placeStreams, streamNew}, Prepare.newFile}
 
 -- the files with one more
@@ -66,6 +66,20 @@ module _ (ns : Namespace) (dir : FileNo) (leaf : Leaf) (file : File) (h : Namesp
             (h .streams)
             (unnamed-sound (ns .files) (grown ns f file) (ns .streams) f (file .«file_type») (h .streams) added agrees)
 
+        -- no mark comes, and the parent, which gets a child, has none
+        unmarked : MarksKept (ns .files) (grown ns f file)
+        unmarked = marks-kept (ns .files) f file (λ u. absurd (not-both u (fit .unmarked)))
+
+        childless : (g : FileNo) → fileAt (ns .files) g .«delete_pending» ≡ true → hasChildren (ns .links) g ≡ false
+            → hasChildren (set (ns .links) (l .0) (linkNew dir (leaf .file) f)) g ≡ false
+        unfolding hasChildren linkNew
+        childless g u =
+            none-set (childOf g) (ns .links) (l .0) _
+            (refuted _
+            (λ c.
+            not-both u
+            (ap (λ (n : FileNo). fileAt (ns .files) n .«delete_pending») (sym (child-of-iff g _ .0 c .1)) ∙ fit .parentStays)))
+
         -- the file and its link, with the streams that are written
         well : (streams : List (StreamNo × BareStream)) (opened : StreamNo)
             → let ss = writes (λ (n : StreamNo). n .0) streams (ns .streams) in
@@ -88,18 +102,21 @@ module _ (ns : Namespace) (dir : FileNo) (leaf : Leaf) (file : File) (h : Namesp
                         refl
                         not-root;
                     streams = consistent;
+                    marks = marks-with (h .marks) unmarked childless;
                   };
               kept = kept;
+              marksKept = unmarked;
               wasFree = wasFree;
               streamUsed = used;
               streamFile = own;
+              notRoot = λ e. not-root (ap (λ (g : FileNo). g .0) e);
             }
 
         well-unnamed : PlacedWell ns (placeFile (f, file) (l, linkNew dir (leaf .file) f) ((s, streamNew f (file .«file_type») []) ∷ []) s)
         unfolding unnamed bareAt bareUsed writes streamNew fileUsed
         well-unnamed =
             let new = stream-there (ns .streams) s unnamed slot in
-            well ((s, unnamed) ∷ []) s with-unnamed (stream-kept (ns .streams) s unnamed slot) (slot .free)
+            well ((s, unnamed) ∷ []) s with-unnamed (stream-kept (ns .streams) s unnamed slot refl) (slot .free)
             (ap bareUsed new ∙ fit .used)
             (ap (λ (x : BareStream). x .file) new)
 
@@ -149,7 +166,7 @@ module _ (ns : Namespace) (dir : FileNo) (leaf : Leaf) (file : File) (h : Namesp
                 well ((s, unnamed) ∷ (t, named) ∷ []) t
                 (streams-with before t named slot-still (grown ns f file) (grown ns f file) (λ g u. refl) with-unnamed
                 (named-sound (grown ns f file) before f (file .«file_type») (leaf .stream) made with-unnamed given no-directory))
-                (kept-both (stream-kept (ns .streams) s unnamed slot) (stream-kept before t named slot-still))
+                (kept-both (stream-kept (ns .streams) s unnamed slot refl) (stream-kept before t named slot-still refl))
                 (free .free)
                 (ap bareUsed new ∙ fit .used)
                 (ap (λ (x : BareStream). x .file) new)

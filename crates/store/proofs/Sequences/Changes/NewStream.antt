@@ -1,5 +1,5 @@
 -- The streams that step 12 makes: a named one of a data file, and the unnamed one of a new file.
-use Rattle.base.{specs.Base.{ℕ, _+_, _≡_, Bool, true, false, List, [], _≢_, all, count, isEmpty, padded, streamNameLimit, isUsed, isDirectory, fileUsed, BareStream, zeroBare, bareUsed, bareAt, FileType, FileNo, StreamNo, File}, proofs.Laws.{refl, sym, _∙_, ap, ℕ-discrete, not-both, one, refuted, count-none, one-before, one-added}}
+use Rattle.base.{specs.Base.{ℕ, _+_, _≡_, Bool, true, false, List, [], _≢_, all, count, isEmpty, padded, streamNameLimit, isUsed, isDirectory, fileUsed, BareStream, zeroBare, bareUsed, bareAt, FileType, FileNo, StreamNo, File}, proofs.Laws.{false≢true, refl, sym, _∙_, ap, ℕ-discrete, not-both, one, refuted, count-none, one-before, one-added}}
 use Rattle.consistency.{specs.{Relations.{typeAt, streamOf, unnamedOf}, Consistent.StreamsConsistent}, proofs.{Numbered.same-file, Relations.{stream-of-iff, unnamed-iff}, Derived.stream-good}}
 use Rattle.names.specs.Names.{validStreamName}
 use Rattle.stored_names.{specs.StoredNames.units, proofs.Padded.{stream-name-units, units-padded, padded-stored}}
@@ -35,6 +35,7 @@ module _ (fs : List File) (ss : List BareStream) (f : FileNo) (type : FileType) 
               nameValid = ap (validStreamName streamNameLimit) made-units ∙ made .valid;
               namesUsedFile = ap isUsed (sym (made .agrees)) ∙ made .used;
               typeAgrees = made .agrees;
+              markedNamed = λ u. absurd (false≢true u);
             };
         nameNew = λ t u e n. made .nameNew t u e (n ∙ made-units);
         oneUnnamed = unnamed;

@@ -1,10 +1,10 @@
 -- A stream that a data file gains: its placing leaves consistent names.
 use Rattle.base.{specs.Base.{ℕ, _≡_, true, false, List, [], _∷_, set, isEmpty, writes, isUsed, isDirectory, fileUsed, Namespace, BareStream, zeroBare, bareUsed, bareAt, Data, FileNo, StreamNo, File, streamUsed}, proofs.Laws.{refl, sym, _∙_, ap, arith, refuted, empty-is, count-none, FreeSlot, Ends, ends-bind, goes}}
-use Rattle.consistency.{specs.Relations.unnamedOf, proofs.{Numbered.file-in, Relations.{stream-of-iff, unnamed-iff}}}
+use Rattle.consistency.{specs.Relations.unnamedOf, proofs.Relations.{stream-of-iff, unnamed-iff}}
 use Rattle.paths.specs.Paths.{Leaf}
 use Rattle.tables.specs.Tables.{fileAt}
-use Rattle.store.proofs.Sequences.{Facts.{NamespaceConsistent, StreamFits, PlacedWell, Early}, Changes.{Types.is-data, Attributes.{attributes-kept, same-types}, Free.stream-free, Relations.stream-name-new, Streams.{streams-with, stream-kept, stream-there}, NewStream.{StreamMade, made-used, named-sound}}}
-use Rattle.store.specs.{Prepare.newStream, Complete.{changed, attributeChange, withAttributes, streamNew, place}, StepCases.{Form.{after, stream}, Names.valid, Resources.file}}
+use Rattle.store.proofs.Sequences.{Facts.{NamespaceConsistent, StreamFits, PlacedWell, Early}, Changes.{Types.is-data, Attributes.{attributes-kept, attributes-unmarked, not-root, same-types}, Free.stream-free, Relations.stream-name-new, Streams.{streams-with, stream-kept, stream-there}, NewStream.{StreamMade, made-used, named-sound}}}
+use Rattle.store.specs.{Prepare.newStream, Complete.{changed, attributeChange, withAttributes, streamNew, place}}
 
 module _ (ns : Namespace) (f : FileNo) (leaf : Leaf) (a : ℕ) (h : NamespaceConsistent ns) (fit : StreamFits ns f a (leaf .stream)) where
   is-used : fileUsed (fileAt (ns .files) f) ≡ true
@@ -41,7 +41,7 @@ module _ (ns : Namespace) (f : FileNo) (leaf : Leaf) (a : ℕ) (h : NamespaceCon
           used = refl;
           agrees =
               sym
-              (same-types (ns .files) f _ (file-in (ns .files) f is-used) refl f
+              (same-types (ns .files) f _ refl f
               ∙ is-data _ (fit .attributes .dataFile));
           valid = fit .nameValid;
           nameNew = stream-name-new (fit .fold) f (leaf .stream) (ns .streams) (fit .nameNew);
@@ -70,11 +70,14 @@ module _ (ns : Namespace) (f : FileNo) (leaf : Leaf) (a : ℕ) (h : NamespaceCon
                 streams =
                     streams-with (ns .streams) s new slot files-after files-after (λ g u. refl) (kept .streams)
                     (named-sound files-after (ns .streams) f Data (leaf .stream) made (kept .streams) named refl);
+                marks = kept .marks;
               };
-          kept = stream-kept (ns .streams) s new slot;
+          kept = stream-kept (ns .streams) s new slot refl;
+          marksKept = attributes-unmarked ns f a h (fit .attributes);
           wasFree = slot .free;
           streamUsed = ap bareUsed there ∙ made-used files-after (ns .streams) f Data (leaf .stream) made;
           streamFile = ap (λ (x : BareStream). x .file) there;
+          notRoot = λ e. not-root ns f a h (fit .attributes) (ap (λ (g : FileNo). g .0) e);
         }
 
   pub stream-placed : Ends Early (PlacedWell ns) (place ns (newStream f leaf a))

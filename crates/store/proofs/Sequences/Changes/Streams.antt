@@ -1,5 +1,5 @@
 -- A stream written at a free number: when the streams stay consistent, also over files that have grown.
-use Rattle.base.{specs.Base.{_+_, _≡_, Bool, true, false, _&&_, List, eqb, set, count, isEmpty, isDirectory, fileUsed, BareStream, zeroBare, bareUsed, bareAt, FileNo, StreamNo, File}, proofs.Laws.{sym, _∙_, ap, length-set, getD-set-same, not-both, one, FreeSlot, count-gained}}
+use Rattle.base.{specs.Base.{_+_, _≡_, Bool, true, false, _&&_, List, eqb, getD, set, count, isEmpty, isDirectory, fileUsed, BareStream, zeroBare, bareUsed, bareAt, FileNo, StreamNo, File}, proofs.Laws.{sym, _∙_, ap, length-set, getD-set-same, not-both, one, set-placed, FreeSlot, count-gained}}
 use Rattle.consistency.{specs.{Good.StreamNamesDiffer, Relations.{typeAt, streamOf, unnamedOf}, Consistent.{GoodStreamOf, StreamsConsistent}}, proofs.Slots.{slots-good, slots-set, two-set}}
 use Rattle.lists.proofs.Set.{used-stays}
 use Rattle.stored_names.specs.StoredNames.{units}
@@ -47,10 +47,18 @@ module _ (ss : List BareStream) (s : StreamNo) (b : BareStream) (slot : FreeSlot
             (λ j w u e n. sound .nameNew (record { 0 = j }) u (sym e) (sym n));
       }
 
-  -- every used stream stays, and the new one stands at its number
-  pub stream-kept : StreamsKept ss (set ss (s .0) b)
+  -- every used stream stays, and the new one, which is not marked, stands at its number
+  pub stream-kept : b .deletePending ≡ false → StreamsKept ss (set ss (s .0) b)
   unfolding bareAt
-  stream-kept = record { sameLength = length-set ss (s .0) b; usedKept = λ t u. used-stays slot b (t .0) u }
+  stream-kept unmarked =
+      record {
+        sameLength = length-set ss (s .0) b;
+        usedKept = λ t u. used-stays slot b (t .0) u;
+        marksKept =
+            λ t.
+            set-placed zeroBare (λ j x. x .deletePending ≡ true → getD ss j zeroBare .deletePending ≡ true) ss (s .0) b
+            (λ u. absurd (not-both u unmarked)) (λ j u. u) (t .0);
+      }
 
   pub stream-there : bareAt (set ss (s .0) b) s ≡ b
   unfolding bareAt
@@ -61,4 +69,5 @@ kept-both h k =
     record {
       sameLength = k .sameLength ∙ h .sameLength;
       usedKept = λ t u. let e = h .usedKept t u in k .usedKept t (ap bareUsed e ∙ u) ∙ e;
+      marksKept = λ t u. h .marksKept t (k .marksKept t u);
     }

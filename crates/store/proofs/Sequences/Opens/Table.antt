@@ -37,6 +37,7 @@ replaced {ss} {next} {next′} {os} c l i o z g d =
           namesItsFile = h .namesItsFile;
           terms = h .terms;
           handleBelow = omega (arith, h .handleBelow);
+          rootStays = h .rootStays;
         }
 
 pub conflicts-set : (os : List Open) → NoConflicts os → (i : ℕ) (o : Open)

@@ -1,0 +1,57 @@
+-- A close keeps tables and model related. (old text, to be redone:)
+-- -- an open that a close strikes
+-- module _ {t : Tables} {m : Model} (related : Related t m) (h : Handle) (c : Closing) (s : Struck h (c .struck) (t .opens .rows))
+--     (unchanged : c .change ≡ noChange) where
+--   abbrev left-tables : Tables
+--   left-tables = closed t c .state
+-- 
+--   rows-left : left-tables .opens .rows ≡ set (t .opens .rows) (s .slot) zeroOpen
+--   unfolding closed
+--   rows-left = s .rows
+-- 
+--   used : openUsed (openAt (t .opens .rows) (s .slot)) ≡ true
+--   used = ap openUsed (s .there) ∙ handle-used h (c .struck) (s .has)
+-- 
+--   closed-namespace : namespace (left-tables .volume) ≡ namespace (t .volume)
+--   unfolding closed changed writes
+--   closed-namespace =
+--       changed-names (c .change) _ ∙ ap (λ (x : Change). changed x (namespace (volumeWithoutOpen (c .struck) (t .volume)))) unchanged
+--       ∙ without-open-names _ _
+-- 
+--   closed-counts : CountsTrue (left-tables .volume .streams) (left-tables .opens .rows)
+--   unfolding closed changedVolume volumeWithoutOpen namespace
+--   closed-counts =
+--       counts-written (c .change .streams) _ _
+--       (subst (λ (os : List Open). CountsTrue (recount (withoutOpen (c .struck)) (c .struck .stream) (t .volume .streams)) os) (sym rows-left)
+--       (subst (λ (q : Open). CountsTrue (recount (withoutOpen q) (q .stream) (t .volume .streams)) (set (t .opens .rows) (s .slot) zeroOpen)) (s .there)
+--       (counts-left (t .volume .streams) (t .opens .rows) (s .slot) (s .below) used
+--       (used-below (t .volume .streams) (openAt (t .opens .rows) (s .slot) .stream)
+--       (related .consistentTables .opens .slots .usedGood (s .slot) used .namesUsedStream))
+--       (related .consistentTables .counts))))
+-- 
+--   close-related : Related left-tables (modelClosed m c .state)
+--   unfolding closed modelClosed changedVolume volumeWithoutOpen changed writes
+--   close-related =
+--       let opens = related .consistentTables .opens in
+--       let kept : Permutation (live (t .opens .rows)) (c .struck ∷ live (set (t .opens .rows) (s .slot) zeroOpen)) =
+--       subst (λ (q : Open). Permutation (live (t .opens .rows)) (q ∷ live (set (t .opens .rows) (s .slot) zeroOpen))) (s .there)
+--       (left-live (t .opens .rows) (s .slot) (s .below) used) in
+--       record {
+--         consistentTables =
+--             consistent-with left-tables (namespace (t .volume)) closed-namespace
+--             (namespace-of (related .consistentTables)) (subst (λ (os : List Open). OpensConsistent (namespace (t .volume) .streams) (t .volume .«next_handle» .0) os) (sym rows-left)
+--             (left opens (s .slot)))
+--             closed-counts
+--             (subst NoConflicts (sym rows-left) (conflicts-left (t .opens .rows) (related .consistentTables .conflicts) (s .slot)));
+--         opensAreEntries =
+--             rw rows-left
+--             (subst (λ (k : Handle). Permutation (live (set (t .opens .rows) (s .slot) zeroOpen)) (keep (λ q. not (hasHandle k q)) (m .entries)))
+--             (sym (handle-is h (c .struck) (s .has)))
+--             (others-kept h (c .struck) (live (set (t .opens .rows) (s .slot) zeroOpen)) (both (perm-sym (related .opensAreEntries)) kept) (s .has)
+--             (sym (perm-apart (hasHandle h) kept) ∙ one-handle h opens)));
+--         sameNamespace =
+--             closed-namespace ∙ related .sameNamespace ∙ ap (λ (x : Change). changed x (m .namespace)) (sym unchanged);
+--         nextHandle = related .nextHandle;
+--       }
+-- 
+-- 
