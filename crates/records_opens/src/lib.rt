@@ -1,7 +1,9 @@
 // The opens in the lent bytes: each read and written by its row. A row past the table's end reads as a free one, and
 // nothing is written there.
+use layout::OPEN_MARK_IN;
 use layout::OPEN_SIZE;
 use layout::OPENS_AT;
+use layout::mark_number;
 use little_endian::read_u16;
 use little_endian::read_u32;
 use little_endian::read_u64;
@@ -34,6 +36,7 @@ fn open_from(b: &[u8], at: usize) -> Open
         stream: StreamNo(read_u16(b, at + 10)),
         granted: read_u32(b, at + 12),
         share: read_u32(b, at + 16),
+        delete_on_close: read_u16(b, at + OPEN_MARK_IN) != 0,
     }
 }
 
@@ -57,6 +60,7 @@ fn put_open(b: &mut [u8], at: usize, o: Open)
     write_u16(b, at + 10, o.stream.0);
     write_u32(b, at + 12, o.granted);
     write_u32(b, at + 16, o.share);
+    write_u16(b, at + OPEN_MARK_IN, mark_number(o.delete_on_close));
 }
 
 pub fn write_open(b: &mut [u8], n: usize, o: Open)

@@ -3,10 +3,12 @@
 use codecs::read_units;
 use codecs::write_units;
 use layout::COUNTS_IN;
+use layout::STREAM_MARK_IN;
 use layout::STREAM_SIZE;
 use layout::STREAMS_AT;
 use layout::kind_number;
 use layout::kind_of;
+use layout::mark_number;
 use little_endian::read_u16;
 use little_endian::write_u16;
 use records::FileNo;
@@ -63,6 +65,7 @@ fn stream_from(b: &[u8], at: usize) -> Stream
     let stream_type = kind_of(read_u16(b, at));
     let file = FileNo(read_u16(b, at + 2));
     let counts = counts_from(b, at + COUNTS_IN);
+    let delete_pending = read_u16(b, at + STREAM_MARK_IN) != 0;
     let mut name = [0u16; STREAM_NAME_LIMIT];
     read_units(b, at + 4, &mut name);
     Stream {
@@ -70,6 +73,7 @@ fn stream_from(b: &[u8], at: usize) -> Stream
         stream_type,
         name,
         counts,
+        delete_pending,
     }
 }
 
@@ -96,6 +100,7 @@ fn put_stream(b: &mut [u8], at: usize, s: Stream)
     write_u16(b, at + 2, s.file.0);
     write_units(b, at + 4, &name);
     put_counts(b, at + COUNTS_IN, counts);
+    write_u16(b, at + STREAM_MARK_IN, mark_number(s.delete_pending));
 }
 
 pub fn write_stream(b: &mut [u8], n: StreamNo, s: Stream)
@@ -156,5 +161,18 @@ pub fn read_stream_file(b: &[u8], n: StreamNo) -> FileNo
         FileNo(read_u16(b, STREAMS_AT + STREAM_SIZE * i + 2))
     } else {
         FileNo(0)
+    }
+}
+
+// A stream's mark alone: it goes with its last open.
+pub fn read_stream_mark(b: &[u8], n: StreamNo) -> bool
+    requires { ⌜ length (now b) ≡ tablesSize ⌝ }
+    ensures { λ r. ⌜ r ≡ streamAt (decode (now (b .entry)) .volume .streams) n .«delete_pending» ⌝ }
+{
+    let i = n.0 as usize;
+    if i < STREAM_SLOTS {
+        read_u16(b, STREAMS_AT + STREAM_SIZE * i + STREAM_MARK_IN) != 0
+    } else {
+        false
     }
 }

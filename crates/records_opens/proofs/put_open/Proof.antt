@@ -6,7 +6,8 @@ use Rattle.records_opens.proofs.put_open.Tie as tie
 
 returns : tie.Need-returns
 returns c =
-    let share = c .before .before in
+    let mark = c .before .before in
+    let share = mark .before .before .before .before .before in
     let granted = share .before .before .before .before in
     let stream = granted .before .before .before .before in
     let file = stream .before .before .before .before in
@@ -14,7 +15,9 @@ returns c =
     after 8 _ (omega arith) (handle .write-u64 .ensures)
     (after 2 _ (omega arith) (file .write-u16 .ensures)
     (after 2 _ (omega arith) (stream .write-u162 .ensures)
-    (after 4 _ (omega arith) (granted .write-u32 .ensures) (share .write-u322 .ensures))))
+    (after 4 _ (omega arith) (granted .write-u32 .ensures)
+    (after 4 _ (omega arith) (share .write-u322 .ensures)
+    (rw (mark .before .mark-number .ensures) at (mark .write-u163 .ensures))))))
 
 pub put-open-spec : {M : Type 1} → statement M
 put-open-spec =
@@ -28,6 +31,9 @@ put-open-spec =
     (λ c. search needs)
     (λ c κs. search needs)
     (λ c. search needs)
+    (λ c κs. search needs)
+    (λ c. search needs)
+    (λ c κs. search needs)
     (λ c κs. search needs)
     (λ c. search needs)
     returns)
