@@ -73,3 +73,12 @@ module _ {A : Type 0} where
       everyone : (ys : List A) → count (λ y. true) ys ≡ length ys
       everyone [] = refl
       everyone (y ∷ ys) = ap suc (everyone ys)
+
+  -- two lists whose places pass alike
+  pub count-places : (p : A → Bool) (d : A) (xs ys : List A) → length xs ≡ length ys
+      → ((i : ℕ) → p (getD xs i d) ≡ p (getD ys i d)) → count p xs ≡ count p ys
+  unfolding count
+  count-places p d [] [] l h = refl
+  count-places p d [] (y ∷ ys) l h = absurd (let z : ⊥ = omega arith in z)
+  count-places p d (x ∷ xs) [] l h = absurd (let z : ⊥ = omega arith in z)
+  count-places p d (x ∷ xs) (y ∷ ys) l h = rw (h 0, count-places p d xs ys (omega arith) (λ i. h (suc i)))

@@ -11,6 +11,7 @@ pub mod Pairs
 pub mod First
 pub mod Permutations
 pub mod Set
+pub mod Cleared
 pub mod Pigeonhole
 pub mod Keyed
 pub mod Counted

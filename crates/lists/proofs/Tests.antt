@@ -113,6 +113,10 @@ cond-true x y p = ap (λ (b : Bool). cond b x y) p
 pub cond-false : {A : Type 0} {b : Bool} (x y : A) → b ≡ false → cond b x y ≡ y
 cond-false x y p = ap (λ (b : Bool). cond b x y) p
 
+pub cond-cases : {A : Type 0} (P : A → Type 0) (b : Bool) (x y : A) → (b ≡ true → P x) → (b ≡ false → P y) → P (cond b x y)
+cond-cases P true x y f g = f refl
+cond-cases P false x y f g = g refl
+
 -- 1 where the test passes, else 0
 abbrev pub one : Bool → ℕ
 one b = cond b 1 0

@@ -1,6 +1,6 @@
 -- The step cases hold, by evaluation of the definitions.
 use Rattle.base.proofs.Laws.{refl}
-use Rattle.store.specs.StepCases.{Form.{expected, failing, Hold}, Parameters.{parameterCases, outsideCases, accessBitCases}, Names.{pathCases, nameCases, namesAlone, NamesAloneHold}, Lookups.{readOnlyCases, lookupCases, typeCases}, NewFiles.{newFileCases, parentCases}, Directories.{directoryCases, shareReadCases}, Streams.{foundCases, gainedCases, missingCases}, Rules.{accessCases, sharingCases}, Resources.{tables, sparse, resourceCases, slotCases}, Calls.callCases, Shares.{expectedShares, SharesHold, shareCases}, Tables.{expectedTables, TablesHold, corruptCases, formatCases, runCases}}
+use Rattle.store.specs.StepCases.{Form.{expected, failing, Hold}, Parameters.{parameterCases, outsideCases, accessBitCases}, Names.{pathCases, nameCases, namesAlone, NamesAloneHold}, Lookups.{readOnlyCases, lookupCases, typeCases}, NewFiles.{newFileCases, parentCases}, Directories.{directoryCases, shareReadCases}, Streams.{foundCases, gainedCases, missingCases}, Rules.{accessCases, sharingCases}, Resources.{tables, sparse, resourceCases, slotCases}, Calls.callCases, Deletes.{deleteOptionCases, cannotDeleteNewCases, cannotDeleteDirectoryCases, cannotDeleteStreamCases}, Pending.{pendingFileCases, pendingDirectoryCases, pendingStreamCases}, Removals.{markCases, childCases, removedFileCases, removedStreamCases}, Shares.{expectedShares, SharesHold, shareCases}, Tables.{expectedTables, TablesHold, corruptCases, formatCases, runCases}}
 
 pub parameter-cases : Hold parameterCases
 unfolding expected failing
@@ -89,6 +89,50 @@ share-cases = refl
 pub call-cases : Hold callCases
 unfolding expected failing
 call-cases = refl
+
+pub delete-option-cases : Hold deleteOptionCases
+unfolding expected failing
+delete-option-cases = refl
+
+pub cannot-delete-new-cases : Hold cannotDeleteNewCases
+unfolding expected failing
+cannot-delete-new-cases = refl
+
+pub cannot-delete-directory-cases : Hold cannotDeleteDirectoryCases
+unfolding expected failing
+cannot-delete-directory-cases = refl
+
+pub cannot-delete-stream-cases : Hold cannotDeleteStreamCases
+unfolding expected failing
+cannot-delete-stream-cases = refl
+
+pub pending-file-cases : Hold pendingFileCases
+unfolding expected failing
+pending-file-cases = refl
+
+pub pending-directory-cases : Hold pendingDirectoryCases
+unfolding expected failing
+pending-directory-cases = refl
+
+pub pending-stream-cases : Hold pendingStreamCases
+unfolding expected failing
+pending-stream-cases = refl
+
+pub mark-cases : Hold markCases
+unfolding expected failing
+mark-cases = refl
+
+pub child-cases : Hold childCases
+unfolding expected failing
+child-cases = refl
+
+pub removed-file-cases : Hold removedFileCases
+unfolding expected failing
+removed-file-cases = refl
+
+pub removed-stream-cases : Hold removedStreamCases
+unfolding expected failing
+removed-stream-cases = refl
 
 pub corrupt-cases : TablesHold corruptCases
 unfolding expectedTables failing

@@ -11,4 +11,7 @@ pub mod Resources
 pub mod Rules
 pub mod Shares
 pub mod Calls
+pub mod Deletes
+pub mod Pending
+pub mod Removals
 pub mod Tables

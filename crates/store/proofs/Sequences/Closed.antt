@@ -1,57 +1,69 @@
--- A close keeps tables and model related. (old text, to be redone:)
--- -- an open that a close strikes
--- module _ {t : Tables} {m : Model} (related : Related t m) (h : Handle) (c : Closing) (s : Struck h (c .struck) (t .opens .rows))
---     (unchanged : c .change ≡ noChange) where
---   abbrev left-tables : Tables
---   left-tables = closed t c .state
--- 
---   rows-left : left-tables .opens .rows ≡ set (t .opens .rows) (s .slot) zeroOpen
---   unfolding closed
---   rows-left = s .rows
--- 
---   used : openUsed (openAt (t .opens .rows) (s .slot)) ≡ true
---   used = ap openUsed (s .there) ∙ handle-used h (c .struck) (s .has)
--- 
---   closed-namespace : namespace (left-tables .volume) ≡ namespace (t .volume)
---   unfolding closed changed writes
---   closed-namespace =
---       changed-names (c .change) _ ∙ ap (λ (x : Change). changed x (namespace (volumeWithoutOpen (c .struck) (t .volume)))) unchanged
---       ∙ without-open-names _ _
--- 
---   closed-counts : CountsTrue (left-tables .volume .streams) (left-tables .opens .rows)
---   unfolding closed changedVolume volumeWithoutOpen namespace
---   closed-counts =
---       counts-written (c .change .streams) _ _
---       (subst (λ (os : List Open). CountsTrue (recount (withoutOpen (c .struck)) (c .struck .stream) (t .volume .streams)) os) (sym rows-left)
---       (subst (λ (q : Open). CountsTrue (recount (withoutOpen q) (q .stream) (t .volume .streams)) (set (t .opens .rows) (s .slot) zeroOpen)) (s .there)
---       (counts-left (t .volume .streams) (t .opens .rows) (s .slot) (s .below) used
---       (used-below (t .volume .streams) (openAt (t .opens .rows) (s .slot) .stream)
---       (related .consistentTables .opens .slots .usedGood (s .slot) used .namesUsedStream))
---       (related .consistentTables .counts))))
--- 
---   close-related : Related left-tables (modelClosed m c .state)
---   unfolding closed modelClosed changedVolume volumeWithoutOpen changed writes
---   close-related =
---       let opens = related .consistentTables .opens in
---       let kept : Permutation (live (t .opens .rows)) (c .struck ∷ live (set (t .opens .rows) (s .slot) zeroOpen)) =
---       subst (λ (q : Open). Permutation (live (t .opens .rows)) (q ∷ live (set (t .opens .rows) (s .slot) zeroOpen))) (s .there)
---       (left-live (t .opens .rows) (s .slot) (s .below) used) in
---       record {
---         consistentTables =
---             consistent-with left-tables (namespace (t .volume)) closed-namespace
---             (namespace-of (related .consistentTables)) (subst (λ (os : List Open). OpensConsistent (namespace (t .volume) .streams) (t .volume .«next_handle» .0) os) (sym rows-left)
---             (left opens (s .slot)))
---             closed-counts
---             (subst NoConflicts (sym rows-left) (conflicts-left (t .opens .rows) (related .consistentTables .conflicts) (s .slot)));
---         opensAreEntries =
---             rw rows-left
---             (subst (λ (k : Handle). Permutation (live (set (t .opens .rows) (s .slot) zeroOpen)) (keep (λ q. not (hasHandle k q)) (m .entries)))
---             (sym (handle-is h (c .struck) (s .has)))
---             (others-kept h (c .struck) (live (set (t .opens .rows) (s .slot) zeroOpen)) (both (perm-sym (related .opensAreEntries)) kept) (s .has)
---             (sym (perm-apart (hasHandle h) kept) ∙ one-handle h opens)));
---         sameNamespace =
---             closed-namespace ∙ related .sameNamespace ∙ ap (λ (x : Change). changed x (m .namespace)) (sym unchanged);
---         nextHandle = related .nextHandle;
---       }
--- 
--- 
+-- A close keeps tables and model related: both strike the open, and both decide alike what becomes of its file and stream.
+use Rattle.base.{specs.Base.{suc, Permutation, both, keep, namespace, Namespace, Tables, Handle, Open, Bool, cond, not, _&&_, _≡_, eqb}, proofs.Laws.{perm-any, perm-apart, perm-sym, _∙_, ap, ap₂, subst, sym}}
+use Rattle.consistency.specs.Consistent.{Consistent}
+use Rattle.tables.specs.Tables.{live, anyOnFile, anyOnStream}
+use Rattle.store.proofs.Sequences.{Opens.Close.{Struck, handle-is, one-handle, others-kept}, Related.Related, Closing.{Struck.{struck-names, struck-live, struck-counts, struck-conflicts, after-strike}, Effects.settled-consistent, Names.names-after, Facts.{fileGoes, streamGoes}}}
+use Rattle.store.specs.{Close.{CloseEffect, closeEffect, removesFile, removesStream, marksFile, marksStream, unchanged, fileMarked, fileRemoved, streamMarked, streamRemoved, namespaceAfter}, Complete.View, Model.{Model, modelClosed, modelSettled, modelStruck, modelView}, Store.{closed, hasHandle, settled, storeView, struck, volumeAfter, volumeWithoutOpen}}
+
+-- a close leaves consistent tables
+pub closed-consistent : {t : Tables} → Consistent (t .volume) (t .opens) → (h : Handle) (o : Open) → Struck h o (t .opens .rows)
+    → Consistent (closed t o .state .volume) (closed t o .state .opens)
+unfolding closed
+closed-consistent {t} ok h o s =
+    settled-consistent (struck t o) o (after-strike ok h o s) (struck-counts ok h o s) (struck-conflicts ok h o s)
+
+-- the effect is asked of two answers about the opens
+effects-same : (view view′ : View) (ns : Namespace) (o : Open) → view .fileOpen (o .file) ≡ view′ .fileOpen (o .file)
+    → view .streamOpen (o .stream) ≡ view′ .streamOpen (o .stream) → closeEffect view ns o ≡ closeEffect view′ ns o
+unfolding closeEffect removesFile removesStream
+effects-same view view′ ns o f s =
+    ap₂
+    (λ (a b : Bool).
+    cond (fileGoes ns o && not a) (fileRemoved (o .file))
+    (cond (streamGoes ns o && not b) (streamRemoved (o .stream))
+    (cond (marksFile ns o) (fileMarked (o .file)) (cond (marksStream ns o) (streamMarked (o .stream)) unchanged))))
+    f s
+
+module _ {t : Tables} {m : Model} (related : Related t m) (h : Handle) (o : Open) (s : Struck h o (t .opens .rows)) where
+  ok : Consistent (t .volume) (t .opens)
+  ok = related .consistentTables
+
+  -- the model's entries without the open
+  entries-left : Permutation (live (struck t o .opens .rows)) (modelStruck m o .entries)
+  unfolding modelStruck
+  entries-left =
+      let kept = struck-live ok h o s in
+      subst (λ (k : Handle). Permutation (live (struck t o .opens .rows)) (keep (λ q. not (hasHandle k q)) (m .entries)))
+      (sym (handle-is h o (s .has)))
+      (others-kept h o (live (struck t o .opens .rows)) (both (perm-sym (related .opensAreEntries)) kept) (s .has)
+      (sym (perm-apart (hasHandle h) kept) ∙ one-handle h (ok .opens)))
+
+  struck-same : namespace (struck t o .volume) ≡ modelStruck m o .namespace
+  unfolding modelStruck
+  struck-same = struck-names ok h o s ∙ related .sameNamespace
+
+  effects-alike : closeEffect (storeView (struck t o)) (namespace (struck t o .volume)) o
+      ≡ closeEffect (modelView (modelStruck m o)) (modelStruck m o .namespace) o
+  unfolding storeView modelView anyOnFile anyOnStream
+  effects-alike =
+      effects-same (storeView (struck t o)) (modelView (modelStruck m o)) (namespace (struck t o .volume)) o
+      (perm-any (λ q. eqb (q .file .0) (o .file .0)) entries-left)
+      (perm-any (λ q. eqb (q .stream .0) (o .stream .0)) entries-left)
+      ∙ ap (λ (ns : Namespace). closeEffect (modelView (modelStruck m o)) ns o) struck-same
+
+  next-left : closed t o .state .volume .«next_handle» .0 ≡ suc (modelClosed m o .state .count)
+  unfolding closed settled volumeAfter struck volumeWithoutOpen modelClosed modelSettled modelStruck
+  next-left = related .nextHandle
+
+  pub close-related : Related (closed t o .state) (modelClosed m o .state)
+  unfolding closed settled modelClosed modelSettled
+  close-related =
+      let e = closeEffect (storeView (struck t o)) (namespace (struck t o .volume)) o in
+      record {
+        consistentTables = closed-consistent ok h o s;
+        opensAreEntries = entries-left;
+        sameNamespace =
+            names-after e (struck t o .volume)
+            ∙ ap₂ (λ (x : CloseEffect) (ns : Namespace). namespaceAfter x ns) effects-alike struck-same;
+        nextHandle = next-left;
+      }

@@ -1,7 +1,7 @@
 -- The form of the step cases: one call on the model after a few others, with its reply and everything that the model keeps
 -- afterwards. The model is asked alone: by the theorem about every sequence the object store answers alike. The numbers
 -- are those of document 01, written out, and none of the definitions' constants.
-use Rattle.base.specs.Base.{ℕ, zero, suc, _-_, _≡_, Bool, true, false, cond, _&&_, List, [], _∷_, _++_, map, none, some, bitAnd, eqb, length, replicate, set, fileUsed, linkUsed, BareStream, Namespace, bareUsed, FileType, Unused, Data, Directory, File, Link, Open, Request, Reply, seen, Step, namespace, FileNo}
+use Rattle.base.specs.Base.{ℕ, zero, suc, _-_, _≡_, Bool, true, false, cond, _&&_, List, [], _∷_, _++_, map, none, some, bitAnd, eqb, isEmpty, length, replicate, set, zeroFile, fileUsed, linkUsed, BareStream, zeroBare, Namespace, bareUsed, FileType, Unused, Data, Directory, File, Link, Open, Request, Reply, seen, Step, namespace, FileNo}
 use Prim.Native.{Char.code, String.{String, len, charAt}}
 use Rattle.tables.specs.Tables.{fileAt}
 use Rattle.store.specs.{Model.{Model, modelFormat}, Calls.{Call, opens, closes, setsReadOnly, modelStep}, Evaluate.{computes, modelRun}, Cases.a}
@@ -115,15 +115,25 @@ but n attributes masks s =
 abbrev pub holding : Namespace → ℕ → List Open → Start
 holding tables count entries = record { masks = []; calls = []; altered = λ m. modelWith tables count entries }
 
--- a file that was made: the directory that it is in, its name, its attributes. The first one made is file 1 with link 0,
--- since the lowest free slots are taken and none is ever freed
+-- a file that was made: the directory that it is in, its name, its attributes, whether its deletion is pending. The first
+-- one made is file 1 with link 0, since the lowest free slots are taken; and file n always has link n - 1, since a file's
+-- slot and its link's are freed together
 pub record Made : Type 0 where
   pub parent : ℕ
   pub name : List ℕ
   pub attributes : ℕ
+  pub pending : Bool
 
 abbrev pub made : ℕ → String → ℕ → Made
-made parent name attributes = record { parent = parent; name = text name; attributes = attributes }
+made parent name attributes =
+    record { parent = parent; name = text name; attributes = attributes; pending = false }
+
+abbrev pub pending : Made → Made
+pending m = record { parent = m .parent; name = m .name; attributes = m .attributes; pending = true }
+
+-- the slots of a file that was removed
+abbrev pub gone : Made
+gone = record { parent = 0; name = []; attributes = 0; pending = false }
 
 unfoldable pub storedUnits : List ℕ → List ℕ
 storedUnits name = name ++ replicate (32 - length name) 0
@@ -132,7 +142,13 @@ unfoldable pub filesMade : List ℕ → List Made → List File
 filesMade masks ms =
     map
     (λ m.
-    record { «file_type» = typeBy (m .attributes); attributes = m .attributes; masks = masks; «delete_pending» = false })
+    cond (isEmpty (m .name)) zeroFile
+    (record {
+      «file_type» = typeBy (m .attributes);
+      attributes = m .attributes;
+      masks = masks;
+      «delete_pending» = m .pending;
+    }))
     ms
 
 unfoldable pub linksMade : ℕ → List Made → List Link
@@ -151,6 +167,13 @@ stream file name = streamAs Data file (text name)
 abbrev pub ofDirectory : ℕ → BareStream
 ofDirectory file = streamAs Directory file []
 
+-- a stream whose deletion is pending, and the slot of one that was removed
+abbrev pub pendingStream : BareStream → BareStream
+pendingStream s = record { file = s .file; streamType = s .streamType; name = s .name; deletePending = true }
+
+abbrev pub goneStream : BareStream
+goneStream = zeroBare
+
 -- an entry: handle, file, stream, granted, share
 abbrev pub entry : ℕ → ℕ → ℕ → ℕ → ℕ → Open
 entry handle file stream granted share =
@@ -161,6 +184,18 @@ entry handle file stream granted share =
       granted = granted;
       share = share;
       «delete_on_close» = false;
+    }
+
+-- an entry that deletes on close
+abbrev pub deleting : Open → Open
+deleting o =
+    record {
+      handle = o .handle;
+      file = o .file;
+      stream = o .stream;
+      granted = o .granted;
+      share = o .share;
+      «delete_on_close» = true;
     }
 
 -- a mark as a number
@@ -201,14 +236,15 @@ kept m =
     ++ rows bareUsed streamRow 0 (t .streams)
     ++ map entryRow (m .entries)
 
--- what is kept where these files were made, with these streams after the root's and these entries, newest first
+-- what is kept where these files were made, with these streams after the root's and these entries, newest first; of those
+-- that are gone, nothing
 unfoldable pub keeps : List ℕ → Bool → ℕ → List Made → List BareStream → List Open → List (List ℕ)
 keeps masks readOnly count ms streams entries =
     let root : File = record { «file_type» = Directory; attributes = 0x10; masks = masks; «delete_pending» = false } in
     (cond readOnly 1 0 ∷ count ∷ [])
-    ∷ rows (λ f. true) fileRow 0 (root ∷ filesMade masks ms)
-    ++ rows (λ l. true) linkRow 0 (linksMade 1 ms)
-    ++ rows (λ s. true) streamRow 0 (ofDirectory 0 ∷ streams)
+    ∷ rows fileUsed fileRow 0 (root ∷ filesMade masks ms)
+    ++ rows linkUsed linkRow 0 (linksMade 1 ms)
+    ++ rows bareUsed streamRow 0 (ofDirectory 0 ∷ streams)
     ++ map entryRow entries
 
 -- a case: where it starts, the call, and what it does
@@ -251,7 +287,7 @@ unfoldable pub looked : (Model → List (List ℕ)) → Step Model → List (Lis
 looked look now = replyRow (now .reply) ∷ look (now .state)
 
 unfoldable pub observed : Case → List (List ℕ)
-unfolding computes modelRun unitsFrom text asking modelWith tablesOf withFile fileOf storedUnits typeBy filesMade linksMade rows typeRow fileRow linkRow streamRow entryRow kept keeps replyRow started looked
+unfolding computes modelRun unitsFrom text asking modelWith tablesOf withFile fileOf storedUnits typeBy filesMade linksMade rows typeRow fileRow linkRow streamRow entryRow kept keeps markRow replyRow started looked
 observed (refuses s c status) = looked kept (modelStep (started s) c)
 observed (accepts s c action ms streams entries) = looked kept (modelStep (started s) c)
 observed (does s c mark ms streams entries) = looked kept (modelStep (started s) c)
@@ -309,12 +345,22 @@ Hold cases = failing observed expected 0 cases ≡ []
 abbrev pub each : List ℕ → (ℕ → Case) → List Case
 each ns case = map case ns
 
--- a file and a directory made by an open that conflicts with none, and the mark set
+-- a file and a directory made by an open that conflicts with none; one that deletes on close what is there, or what it
+-- makes; and the mark set
 abbrev pub makes : String → Call
 makes path = ask 0x80 7 2 0 path
 
 abbrev pub makesDirectory : String → Call
 makesDirectory path = ask 0x80 7 2 1 path
+
+abbrev pub deletes : String → Call
+deletes path = ask 0x10000 7 1 0x1000 path
+
+abbrev pub makesDeleting : String → Call
+makesDeleting path = ask 0x10000 7 2 0x1000 path
+
+abbrev pub makesDirectoryDeleting : String → Call
+makesDirectoryDeleting path = ask 0x10000 7 2 0x1001 path
 
 abbrev pub marks : Call
 marks = setsReadOnly true

@@ -11,13 +11,13 @@ invalid path = refuses fresh (asks 1 7 2 0 path) OBJECT_NAME_INVALID
 -- a path in the root that makes a file of the name; of the name, with a stream beside the unnamed one
 abbrev pub valid : List ℕ → List ℕ → Case
 valid path name =
-    accepts fresh (asks 1 7 2 0 path) FILE_CREATED (record { parent = 0; name = name; attributes = 0x20 } ∷ [])
+    accepts fresh (asks 1 7 2 0 path) FILE_CREATED (record { parent = 0; name = name; attributes = 0x20; pending = false } ∷ [])
     (stream 1 "" ∷ [])
     (entry 1 1 1 1 7 ∷ [])
 
 abbrev pub validStream : List ℕ → List ℕ → List ℕ → Case
 validStream path name named =
-    accepts fresh (asks 1 7 2 0 path) FILE_CREATED (record { parent = 0; name = name; attributes = 0x20 } ∷ [])
+    accepts fresh (asks 1 7 2 0 path) FILE_CREATED (record { parent = 0; name = name; attributes = 0x20; pending = false } ∷ [])
     (stream 1 "" ∷ streamAs Data 1 named ∷ [])
     (entry 1 1 2 1 7 ∷ [])
 

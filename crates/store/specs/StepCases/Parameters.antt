@@ -21,7 +21,7 @@ parameterCases =
     ∷ accepts fresh (ask 4 7 1 1 "") FILE_OPENED [] [] (entry 1 0 0 4 7 ∷ [])
     ∷ accepts fresh (ask 4 7 2 0x40 "a") FILE_CREATED (made 0 "a" 0x20 ∷ []) (stream 1 "" ∷ []) (entry 1 1 1 4 7 ∷ [])
     ∷ accepts fresh (ask 0x1F01FB 7 1 8 "") FILE_OPENED [] [] (entry 1 0 0 0x1F01FB 7 ∷ [])
-    -- a directory with dispositions 1, 2 and 3; every option but 0x1 together; attributes all together
+    -- a directory with dispositions 1, 2 and 3; every option but 0x1 and 0x1000 together; attributes all together
     ∷ accepts fresh (ask 1 7 1 1 "") FILE_OPENED [] [] (entry 1 0 0 1 7 ∷ [])
     ∷ accepts fresh (ask 1 7 2 3 "d") FILE_CREATED (made 0 "d" 0x10 ∷ []) (ofDirectory 1 ∷ []) (entry 1 1 1 1 7 ∷ [])
     ∷ accepts fresh (ask 1 7 3 1 "") FILE_OPENED [] [] (entry 1 0 0 1 7 ∷ [])
@@ -31,14 +31,14 @@ parameterCases =
     -- a directory with dispositions 0, 4 and 5, and with options 0x4, 0x8 and 0x20000
     ++ each (0 ∷ 4 ∷ 5 ∷ []) (λ d. refuses fresh (ask 1 7 d 1 "") INVALID_PARAMETER)
     ++ each (0x5 ∷ 0x9 ∷ 0x20001 ∷ []) (λ options. refuses fresh (ask 1 7 1 options "") INVALID_PARAMETER)
-    -- each option of 0x2004F but 0x40 by itself on the root
+    -- each option of 0x2104F but 0x1000 by itself on the root
     ++ each (0x2 ∷ 0x4 ∷ 0x8 ∷ 0x20000 ∷ []) (λ options. accepts fresh (ask 1 7 1 options "") FILE_OPENED [] [] (entry 1 0 0 1 7 ∷ []))
     ++ refuses fresh (ask 1 7 1 0x40 "") FILE_IS_A_DIRECTORY ∷ []
 
 abbrev pub outsideCases : List Case
 outsideCases =
-    -- options outside 0x2004F
-    each (0x10 ∷ 0x20 ∷ 0x80 ∷ 0x100 ∷ 0x200 ∷ 0x400 ∷ 0x800 ∷ 0x1000 ∷ 0x2000 ∷ 0x4000 ∷ 0x8000 ∷ 0x10000 ∷ 0x40000 ∷ 0x80000 ∷ 0x100000 ∷ 0x200000 ∷ 0x400000 ∷ 0x800000 ∷ 0x1000000 ∷ 0x2000000 ∷ 0x4000000 ∷ 0x8000000 ∷ 0x10000000 ∷ 0x20000000 ∷ 0x40000000 ∷ 0x80000000 ∷ [])
+    -- options outside 0x2104F
+    each (0x10 ∷ 0x20 ∷ 0x80 ∷ 0x100 ∷ 0x200 ∷ 0x400 ∷ 0x800 ∷ 0x2000 ∷ 0x4000 ∷ 0x8000 ∷ 0x10000 ∷ 0x40000 ∷ 0x80000 ∷ 0x100000 ∷ 0x200000 ∷ 0x400000 ∷ 0x800000 ∷ 0x1000000 ∷ 0x2000000 ∷ 0x4000000 ∷ 0x8000000 ∷ 0x10000000 ∷ 0x20000000 ∷ 0x40000000 ∷ 0x80000000 ∷ [])
     (λ options. refuses fresh (ask 1 7 1 options "") INVALID_PARAMETER)
     -- attributes outside 0x31A7
     ++ each (0x8 ∷ 0x10 ∷ 0x40 ∷ 0x200 ∷ 0x400 ∷ 0x800 ∷ 0x4000 ∷ 0x8000 ∷ 0x10000 ∷ 0x20000 ∷ 0x40000 ∷ 0x80000 ∷ 0x100000 ∷ 0x200000 ∷ 0x400000 ∷ 0x800000 ∷ 0x1000000 ∷ 0x2000000 ∷ 0x4000000 ∷ 0x8000000 ∷ 0x10000000 ∷ 0x20000000 ∷ 0x40000000 ∷ 0x80000000 ∷ [])

@@ -1,7 +1,7 @@
 -- The object store on its tables: consistency first, format, and calls in a row, with every table afterwards.
-use Rattle.base.specs.Base.{ℕ, _-_, _≡_, Bool, true, false, cond, List, [], _∷_, _++_, map, replicate, fileUsed, linkUsed, streamUsed, openUsed, zeroCounts, BareStream, bare, Unused, Directory, File, Link, Stream, Open, Tables, Step}
+use Rattle.base.specs.Base.{ℕ, _-_, _≡_, Bool, true, false, cond, List, [], _∷_, _++_, map, replicate, fileUsed, linkUsed, streamUsed, openUsed, zeroCounts, BareStream, bareUsed, bare, Unused, Directory, File, Link, Stream, Open, Tables, Step}
 use Rattle.format.specs.Format.{format}
-use Rattle.store.specs.{Store.storeView, Calls.{Call, setsReadOnly, storeStep}, Evaluate.{computes, storeRun}, Cases.sevenCounts, StepCases.{Form.{ask, attributed, folding, close, rows, fileRow, linkRow, streamRow, entryRow, replyRow, refusedRow, acceptedRow, doneRow, observed, failing, Made, made, filesMade, linksMade, stream, ofDirectory, entry, makesDirectory}, Statuses.{FILE_CORRUPT_ERROR, INVALID_PARAMETER, MEDIA_WRITE_PROTECTED, SHARING_VIOLATION, INVALID_HANDLE, FILE_SUPERSEDED, FILE_OPENED, FILE_CREATED}}}
+use Rattle.store.specs.{Store.storeView, Calls.{Call, setsReadOnly, storeStep}, Evaluate.{computes, storeRun}, Cases.sevenCounts, StepCases.{Form.{ask, attributed, folding, close, rows, fileRow, linkRow, streamRow, entryRow, replyRow, refusedRow, acceptedRow, doneRow, observed, failing, Made, made, pending, filesMade, linksMade, stream, pendingStream, ofDirectory, entry, deleting, makesDirectory, deletes, makesDirectoryDeleting}, Statuses.{FILE_CORRUPT_ERROR, INVALID_PARAMETER, MEDIA_WRITE_PROTECTED, SHARING_VIOLATION, INVALID_HANDLE, CANNOT_DELETE, DELETE_PENDING, FILE_SUPERSEDED, FILE_OPENED, FILE_CREATED}}}
 
 -- the tables as rows of numbers: every slot, or the used ones with their numbers
 unfoldable pub countedRow : Stream → List ℕ
@@ -146,12 +146,12 @@ expectedTables (corrupt n c) = refusedRow FILE_CORRUPT_ERROR ∷ everyRow (unuse
 expectedTables (formatRefused n masks mark status) = refusedRow status ∷ everyRow (unused n)
 expectedTables (formatDone n masks mark) = doneRow ∷ everyRow (formatted masks mark)
 expectedTables (runs calls replies mark next ms streams os) =
-    let root : File = record { «file_type» = Directory; attributes = 0x10; masks = replicate 8 0x1F01FF } in
+    let root : File = record { «file_type» = Directory; attributes = 0x10; masks = replicate 8 0x1F01FF; «delete_pending» = false } in
     replies
     ++ (cond mark 1 0 ∷ next ∷ [])
-    ∷ rows (λ f. true) fileRow 0 (root ∷ filesMade (replicate 8 0x1F01FF) ms)
-    ++ rows (λ l. true) linkRow 0 (linksMade 1 ms)
-    ++ rows (λ s. true) (λ s. streamRow (s .0) ++ s .1) 0 streams
+    ∷ rows fileUsed fileRow 0 (root ∷ filesMade (replicate 8 0x1F01FF) ms)
+    ++ rows linkUsed linkRow 0 (linksMade 1 ms)
+    ++ rows (λ s. bareUsed (s .0)) (λ s. streamRow (s .0) ++ s .1) 0 streams
     ++ map (λ o. o .0 ∷ entryRow (o .1)) os
 expectedTables (room n free) = (cond free 1 0 ∷ []) ∷ []
 
@@ -278,6 +278,89 @@ runCases =
     ∷ (stream 3 "", 1 ∷ 1 ∷ 0 ∷ 0 ∷ 1 ∷ 0 ∷ 0 ∷ [])
     ∷ [])
     ((0, entry 5 2 4 0x80 7) ∷ (1, entry 2 1 1 0x10111 7) ∷ (2, entry 6 3 5 1 1) ∷ (3, entry 4 1 2 0x80 0) ∷ [])
+    -- a marked file and a directory that is not marked for its child; removal on a read-only volume; the slots taken again
+    ∷ runs
+    (ask 0x80 7 2 0 "a:s"
+    ∷ deletes "a"
+    ∷ ask 1 7 1 0 "a:s"
+    ∷ close 2
+    ∷ ask 1 7 1 0 "a"
+    ∷ ask 1 7 2 0 "a\\b"
+    ∷ makesDirectoryDeleting "d"
+    ∷ ask 1 7 2 0 "d\\b"
+    ∷ setsReadOnly true
+    ∷ close 4
+    ∷ close 3
+    ∷ close 1
+    ∷ close 1
+    ∷ setsReadOnly false
+    ∷ ask 2 7 2 0x1000 "e"
+    ∷ ask 0x10002 5 2 0x1000 "e:t"
+    ∷ deletes ""
+    ∷ [])
+    (acceptedRow FILE_CREATED 1 0x80
+    ∷ acceptedRow FILE_OPENED 2 0x10000
+    ∷ acceptedRow FILE_OPENED 3 1
+    ∷ doneRow
+    ∷ refusedRow DELETE_PENDING
+    ∷ refusedRow DELETE_PENDING
+    ∷ acceptedRow FILE_CREATED 4 0x10000
+    ∷ acceptedRow FILE_CREATED 5 1
+    ∷ doneRow
+    ∷ doneRow
+    ∷ doneRow
+    ∷ doneRow
+    ∷ refusedRow INVALID_HANDLE
+    ∷ doneRow
+    ∷ refusedRow INVALID_PARAMETER
+    ∷ acceptedRow FILE_CREATED 6 0x10002
+    ∷ refusedRow CANNOT_DELETE
+    ∷ [])
+    false
+    7
+    (made 0 "e" 0x20 ∷ made 0 "d" 0x10 ∷ made 2 "b" 0x20 ∷ [])
+    ((ofDirectory 0, replicate 7 0)
+    ∷ (stream 1 "", replicate 7 0)
+    ∷ (stream 1 "t", 1 ∷ 0 ∷ 1 ∷ 1 ∷ 1 ∷ 0 ∷ 1 ∷ [])
+    ∷ (ofDirectory 2, replicate 7 0)
+    ∷ (stream 3 "", 1 ∷ 1 ∷ 0 ∷ 0 ∷ 1 ∷ 1 ∷ 1 ∷ [])
+    ∷ [])
+    ((0, deleting (entry 6 1 2 0x10002 5)) ∷ (3, entry 5 3 4 1 7) ∷ [])
+    -- a marked stream, then its file marked too; a stream removed of a file that stays, its slot taken again
+    ∷ runs
+    (ask 0x10000 7 2 0x1000 "a:s"
+    ∷ ask 0x20 7 1 0 "a:s"
+    ∷ ask 0x80 7 3 0 "a:t"
+    ∷ close 1
+    ∷ folding (ask 1 7 1 0 "A:S")
+    ∷ deletes "a"
+    ∷ deletes "a:t"
+    ∷ close 4
+    ∷ close 3
+    ∷ close 5
+    ∷ ask 4 7 2 0 "b"
+    ∷ [])
+    (acceptedRow FILE_CREATED 1 0x10000
+    ∷ acceptedRow FILE_OPENED 2 0x20
+    ∷ acceptedRow FILE_CREATED 3 0x82
+    ∷ doneRow
+    ∷ refusedRow DELETE_PENDING
+    ∷ acceptedRow FILE_OPENED 4 0x10000
+    ∷ acceptedRow FILE_OPENED 5 0x10000
+    ∷ doneRow
+    ∷ doneRow
+    ∷ doneRow
+    ∷ acceptedRow FILE_CREATED 6 4
+    ∷ [])
+    false
+    7
+    (pending (made 0 "a" 0x20) ∷ made 0 "b" 0x20 ∷ [])
+    ((ofDirectory 0, replicate 7 0)
+    ∷ (stream 1 "", replicate 7 0)
+    ∷ (pendingStream (stream 1 "s"), 1 ∷ 1 ∷ 0 ∷ 0 ∷ 1 ∷ 1 ∷ 1 ∷ [])
+    ∷ (stream 2 "", 1 ∷ 0 ∷ 1 ∷ 0 ∷ 1 ∷ 1 ∷ 1 ∷ [])
+    ∷ [])
+    ((0, entry 6 2 3 4 7) ∷ (1, entry 2 1 2 0x20 7) ∷ [])
     -- the opens' room
     ∷ room 255 true
     ∷ room 256 false
