@@ -70,6 +70,7 @@ fn root_file(masks: [u32; ACCOUNTS]) -> File
         file_type: FileType::Directory,
         attributes: DIRECTORY,
         masks,
+        delete_pending: false,
     }
 }
 
@@ -82,6 +83,7 @@ fn root_stream() -> Stream
         stream_type: FileType::Directory,
         name: [0; STREAM_NAME_LIMIT],
         counts: ZERO_COUNTS,
+        delete_pending: false,
     }
 }
 
