@@ -30,6 +30,7 @@ use records::constants::FILE_GENERIC_WRITE;
 use records::constants::HIDDEN;
 use records::constants::MAXIMUM_ALLOWED;
 use records::constants::NOT_CONTENT_INDEXED;
+use records::constants::READ_ONLY;
 use records::constants::SHARE_READ;
 use records::constants::SUPERSEDE;
 use records::constants::SYSTEM;
@@ -37,6 +38,7 @@ use records::constants::TEMPORARY;
 use records::constants::WRITE_DATA;
 use records_files::read_file;
 use records_volume::read_mark;
+use request_checks::deletes_on_close;
 use request_checks::only_opens;
 use request_checks::wants_directory;
 ghost use Prim.Native.Nat.{ℕ};
@@ -49,20 +51,35 @@ ghost use Rattle.records.specs.Constants.{openOnly, openIf, addSubdirectory, ad
 ghost use Rattle.records.specs.Namespace.{namespace};
 ghost use Rattle.layout.specs.Layout.{tablesSize, decode};
 ghost use Rattle.tables.specs.Tables.{fileAt};
-ghost use Rattle.access.specs.Access.{accessRule};
 ghost use Rattle.paths.specs.Positions.{asLeaf};
 ghost use Rattle.store.specs.Request.{wantsDirectory};
-ghost use Rattle.store.specs.Prepare.{asOffered, grantedNew, newType, attributesNew, admitFile, readSharingOf, admitExisting, admitOpen, hiddenOrSystem, gained, replacing, replacement, admitReplace, admitStream};
+ghost use Rattle.store.specs.Prepare.{asOffered, grant, grantedNew, newType, attributesNew, admitFile, readSharingOf, admitExisting, admitOpen, hiddenOrSystem, gained, replacing, replacement, admitReplace, admitStream};
 ghost use Rattle.open_steps.specs.Targets.{asTarget};
 ghost use Rattle.open_steps.specs.Pendings.{asReadSharing, asAttributes, asExisting, asPending};
-ghost use Rattle.admit.specs.Admitted.{admitted};
+ghost use Rattle.admit.specs.Admitted.{asTerms, admitted};
 
-// The access rule on a file, for the request's account.
-fn grant(b: &[u8], r: Request, file: FileNo, access: u32) -> Access
+// What an open is granted on a file, or why it is refused.
+pub enum CheckedAccess {
+    Refused(Status),
+    Granted(u32),
+}
+
+// The access rule on a file, for the request's account; then, for an open that deletes on close, whether the file may go:
+// not the root, and not one that is read-only.
+fn grant(b: &[u8], r: Request, file: FileNo, access: u32) -> CheckedAccess
     requires { ⌜ length (now b) ≡ tablesSize ⌝ }
-    ensures { λ x. ⌜ x ≡ accessRule (fileAt (decode (now (b .entry)) .volume .files) file) (r .account) access ⌝ }
+    ensures { λ x. ⌜ asTerms (r .share) x ≡ grant (namespace (decode (now (b .entry)) .volume)) r file access ⌝ }
 {
-    access_rule(read_file(b, file), r.account, access)
+    let f = read_file(b, file);
+    let may_go = !((file.0 == 0) | bits::has(f.attributes, READ_ONLY));
+    let access = access_rule(f, r.account, access);
+    let Access::Granted(granted) = access else {
+        return CheckedAccess::Refused(Status::AccessDenied);
+    };
+    if deletes_on_close(r) & !may_go {
+        return CheckedAccess::Refused(Status::CannotDelete);
+    }
+    CheckedAccess::Granted(granted)
 }
 
 // Step 9: a new file's type.
@@ -111,16 +128,21 @@ fn add_right(r: Request) -> u32
     }
 }
 
-// Step 9: a temporary directory is refused before the parent's mask is.
+// Step 9: a temporary directory is refused first, then a read-only file that would be deleted on close, then by the
+// parent's mask.
 fn admit_file(b: &[u8], r: Request, dir: FileNo, leaf: LeafParts) -> PendingOpen
     requires { ⌜ length (now b) ≡ tablesSize ⌝ }
     ensures { λ x. ⌜ ((path : List ℕ) → asPending (decode (now (b .entry)) .volume .files) path x ≡ admitFile (namespace (decode (now (b .entry)) .volume)) r dir (asLeaf path leaf)) ⌝ }
 {
     let temporary_directory = wants_directory(r) & bits::has(r.attributes, TEMPORARY);
+    let cannot_delete = deletes_on_close(r) & bits::has(r.attributes, READ_ONLY);
     let parent = read_file(b, dir);
     let may_add = bits::has(mask_of(parent, r.account), add_right(r));
     if temporary_directory {
         return PendingOpen::Refused(Status::InvalidParameter);
+    }
+    if cannot_delete {
+        return PendingOpen::Refused(Status::CannotDelete);
     }
     if !may_add {
         return PendingOpen::Refused(Status::AccessDenied);
@@ -160,8 +182,8 @@ fn admit_existing(b: &[u8], r: Request, e: ExistingOpen) -> PendingOpen
     let attributes = e.attributes;
     let access = grant(b, r, file, e.granted);
     match access {
-        Access::Denied => PendingOpen::Refused(Status::AccessDenied),
-        Access::Granted(granted) => PendingOpen::Existing(ExistingOpen {
+        CheckedAccess::Refused(denial) => PendingOpen::Refused(denial),
+        CheckedAccess::Granted(granted) => PendingOpen::Existing(ExistingOpen {
             file,
             stream,
             granted,
@@ -272,20 +294,22 @@ fn admit_stream(b: &[u8], r: Request, file: FileNo, leaf: LeafParts) -> PendingO
     ensures { λ x. ⌜ ((path : List ℕ) → asPending (decode (now (b .entry)) .volume .files) path x ≡ admitStream (namespace (decode (now (b .entry)) .volume)) r file (asLeaf path leaf)) ⌝ }
 {
     let access = grant(b, r, file, r.access | WRITE_DATA);
-    let Access::Granted(granted) = access else {
-        return PendingOpen::Refused(Status::AccessDenied);
-    };
-    if read_mark(b) {
-        return PendingOpen::Refused(Status::MediaWriteProtected);
+    match access {
+        CheckedAccess::Refused(refusal) => PendingOpen::Refused(refusal),
+        CheckedAccess::Granted(granted) => {
+            if read_mark(b) {
+                return PendingOpen::Refused(Status::MediaWriteProtected);
+            }
+            let f = read_file(b, file);
+            PendingOpen::NewStream(StreamToAdd {
+                file,
+                leaf,
+                attributes: f.attributes | ARCHIVE,
+                granted,
+                share: r.share,
+            })
+        }
     }
-    let f = read_file(b, file);
-    PendingOpen::NewStream(StreamToAdd {
-        file,
-        leaf,
-        attributes: f.attributes | ARCHIVE,
-        granted,
-        share: r.share,
-    })
 }
 
 // Step 11, stream found: opened, or replaced.

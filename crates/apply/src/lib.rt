@@ -73,6 +73,7 @@ fn write_attributes(b: &mut [u8], file: FileNo, attributes: u32)
             file_type,
             attributes,
             masks,
+            delete_pending: f.delete_pending,
         },
     );
 }
@@ -93,6 +94,7 @@ fn write_new_stream(b: &mut [u8], n: StreamNo, file: FileNo, stream_type: FileTy
             stream_type,
             name: stored,
             counts,
+            delete_pending: false,
         },
     );
 }
@@ -166,6 +168,7 @@ fn write_file_added(b: &mut [u8], path: &[u16], f: FileToAdd, at: FileSlots)
             file_type,
             attributes: f.attributes,
             masks,
+            delete_pending: false,
         },
     );
     write_link_added(b, path, f, at);
@@ -249,6 +252,7 @@ pub fn apply_open(b: &mut [u8], path: &[u16], a: AcceptedOpen)
             stream,
             granted: a.granted,
             share: a.share,
+            delete_on_close: a.delete_on_close,
         },
     );
 }

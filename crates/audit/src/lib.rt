@@ -2,6 +2,7 @@
 use audit_conflicts::no_conflicts;
 use audit_files::files_consistent;
 use audit_links::links_consistent;
+use audit_marks::marks_consistent;
 use audit_opens::opens_consistent;
 use audit_streams::streams_consistent;
 use layout_stands::stands_for_tables;
@@ -28,7 +29,10 @@ fn tables_consistent(b: &[u8]) -> bool
     if !opens_consistent(b) {
         return false;
     }
-    no_conflicts(b)
+    if !no_conflicts(b) {
+        return false;
+    }
+    marks_consistent(b)
 }
 
 // Whether the bytes stand for consistent tables.

@@ -23,7 +23,7 @@ fn is_zero_file(f: File) -> bool
     ensures { λ r. ⌜ r ≡ isZeroFile f ⌝ }
 {
     let masks = f.masks;
-    f.attributes == 0 && zero_masks(&masks)
+    (f.attributes == 0) & zero_masks(&masks) & !f.delete_pending
 }
 
 // A used slot has attributes that a file may have, the directory bit exactly on a directory, and valid masks.

@@ -16,7 +16,7 @@ module _ (ss : List Stream) (next : ℕ) where
   -- it looks at the kind and the file of the stream that the row names; found of what was read
   pub row-found : (o : Open) {kind : FileType} {file : FileNo} {n : ℕ} {found b : Bool}
       → kind ≡ streamAt ss (o .stream) .«stream_type» → file ≡ streamAt ss (o .stream) .file → n ≡ next
-      → found ≡ slotTest openUsed (goodOpen (record { file = file; streamType = kind; name = [] }) n) isZeroOpen o
+      → found ≡ slotTest openUsed (goodOpen (record { file = file; streamType = kind; name = []; deletePending = false }) n) isZeroOpen o
       → found ≡ b → openTest o ≡ b
   unfolding goodOpen bareUsed bare
   row-found o {kind} {file} {n} k f h e r =

@@ -23,7 +23,7 @@ use records_volume::read_next;
 use sharing::with_open;
 ghost use Prim.Native.Nat.{ℕ, _<_};
 ghost use mathlib.Core.Path.{_≡_};
-ghost use mathlib.Core.Bool.{_&&_};
+ghost use mathlib.Core.Bool.{false, _&&_};
 ghost use mathlib.Core.List.{[]};
 ghost use lib.ListN.{length, getD};
 ghost use Rattle.records.specs.Slots.{zeroCounts, openUsed};
@@ -40,13 +40,14 @@ ghost use Rattle.consistency.specs.Test.{opensTest, sameCounts, countsTest};
 fn is_zero_open(o: Open) -> bool
     ensures { λ r. ⌜ r ≡ isZeroOpen o ⌝ }
 {
-    (o.file.0 == 0) & (o.stream.0 == 0) & (o.granted == 0) & (o.share == 0)
+    (o.file.0 == 0) & (o.stream.0 == 0) & (o.granted == 0) & (o.share == 0) & !o.delete_on_close
 }
 
 // A used slot, with the kind and the file of the stream that it names: the stream is used and its file is the open's, some
-// access is granted and none but what there is, the sharing mode is one, and the handle was given out.
+// access is granted and none but what there is, the sharing mode is one, the handle was given out, and no delete-on-close
+// open is on the root.
 fn good_open(o: Open, kind: FileType, file: FileNo, next: u64) -> bool
-    ensures { λ r. ⌜ r ≡ goodOpen (record { file = file; streamType = kind; name = [] }) next o ⌝ }
+    ensures { λ r. ⌜ r ≡ goodOpen (record { file = file; streamType = kind; name = []; deletePending = false }) next o ⌝ }
 {
     is_used(kind)
         & (o.file.0 == file.0)
@@ -54,11 +55,12 @@ fn good_open(o: Open, kind: FileType, file: FileNo, next: u64) -> bool
         & within(o.granted, ALL_ACCESS)
         & (o.share <= SHARE_ALL)
         & (o.handle.0 < next)
+        & !(o.delete_on_close & (o.file.0 == 0))
 }
 
 // A row by itself, with the kind and the file of the stream that it names.
 fn row_consistent(o: Open, kind: FileType, file: FileNo, next: u64) -> bool
-    ensures { λ r. ⌜ r ≡ slotTest openUsed (goodOpen (record { file = file; streamType = kind; name = [] }) next) isZeroOpen o ⌝ }
+    ensures { λ r. ⌜ r ≡ slotTest openUsed (goodOpen (record { file = file; streamType = kind; name = []; deletePending = false }) next) isZeroOpen o ⌝ }
 {
     if open_used(o) {
         good_open(o, kind, file, next)

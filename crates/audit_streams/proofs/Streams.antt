@@ -1,9 +1,9 @@
 -- The streams that bytes stand for, as the code reads them, and a slot against a stream.
-use Rattle.base.{specs.Base.{ℕ, _≡_, true, false, not, _&&_, List, length, all, keep, same, isUsed, isDirectory, streamSlots, BareStream, bareUsed, bareAt, bare, namespace, FileType, FileNo, Stream, StreamNo}, proofs.Laws.{refl, sym, _∙_, ap, length-map, eq-eqb, ne-eqb, or-right, all-keep}}
+use Rattle.base.{specs.Base.{ℕ, _≡_, true, false, not, _&&_, List, eqb, length, getD, all, keep, same, isUsed, isDirectory, streamSlots, BareStream, bareUsed, bareAt, bare, namespace, FileType, FileNo, Stream, StreamNo}, proofs.Laws.{refl, sym, _∙_, ap, length-map, eq-eqb, ne-eqb, or-right, all-keep}}
 use mathlib.Core.Bool.{Bool·beq}
 use Rattle.layout.{specs.Layout.decode, proofs.Lengths.streams-count}
 use Rattle.tables.specs.Tables.{streamAt}
-use Rattle.stored_names.specs.StoredNames.{units}
+use Rattle.stored_names.{specs.StoredNames.units, proofs.StoredUnits.units-empty}
 use Rattle.name_tests.specs.NameTests.{goodStreamName}
 use Rattle.consistency.{specs.Good.{goodStream, streamNamesDiffer}, proofs.Derived.bare-at}
 use Rattle.audit_streams.specs.Streams.{freeOrDiffers}
@@ -26,11 +26,15 @@ module _ (bs : List ℕ) where
   unfolding namespace bare
   file-read n e = ap (λ (f : FileNo). f .0) (e ∙ sym (ap (λ (q : BareStream). q .file) (bare-at (decode bs .volume .streams) n)))
 
--- a used one: its name, its file and its type
+-- a used one: its name, its file, its type and its mark
 pub stream-parts : (of : FileType) (s : BareStream)
-    → goodStream of s ≡ (goodStreamName (s .name) && isUsed of && Bool·beq (isDirectory (s .streamType)) (isDirectory of))
+    → goodStream of s
+    ≡ (goodStreamName (s .name)
+    && isUsed of
+    && Bool·beq (isDirectory (s .streamType)) (isDirectory of)
+    && not (s .deletePending && eqb (getD (s .name) 0 0) 0))
 unfolding goodStream goodStreamName
-stream-parts of s = refl
+stream-parts of s = rw (goodStream, units-empty (s .name))
 
 -- a slot against a stream
 module _ (s q : BareStream) where

@@ -36,10 +36,10 @@ fn is_zero_stream(s: Stream) -> bool
     ensures { λ r. ⌜ r ≡ isZeroStream (bare s) ⌝ }
 {
     let name = s.name;
-    s.file.0 == 0 && zero_name(&name)
+    (s.file.0 == 0) & zero_name(&name) & !s.delete_pending
 }
 
-// A used one has a valid name and is of a used file, whose type is given, and of that type.
+// A used one has a valid name and is of a used file, whose type is given, and of that type; only a named one is marked.
 fn good_stream(s: Stream, of: FileType) -> bool
     ensures { λ r. ⌜ r ≡ goodStream of (bare s) ⌝ }
 {
@@ -48,7 +48,8 @@ fn good_stream(s: Stream, of: FileType) -> bool
     if !good_stream_name(&name) {
         return false;
     }
-    is_used(of) & (is_directory(t) == is_directory(of))
+    let unnamed = unit_at(&name, 0) == 0;
+    is_used(of) & (is_directory(t) == is_directory(of)) & !(s.delete_pending & unnamed)
 }
 
 // A stream by itself, with the type of its file.

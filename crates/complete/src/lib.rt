@@ -100,16 +100,17 @@ fn alone_if_asked(b: &[u8], rule: SharingRule, file: FileNo) -> bool
     }
 }
 
-// Step 12's end: the open with its row and handle.
+// Step 12's end: the open with its row and handle, and whether it deletes on close.
 fn finish(
     b: &[u8],
     action: CreateAction,
     placed: PlacedOpen,
     granted: u32,
     share: u32,
+    deletes: bool,
 ) -> DecidedOpen
     requires { ⌜ length (now b) ≡ tablesSize ⌝ }
-    ensures { λ x. ⌜ ((path : List ℕ) → Decides (decode (now (b .entry))) path x (finished (storeView (decode (now (b .entry)))) action (asPlaced (namespace (decode (now (b .entry)) .volume)) path placed) (termsOver granted share))) ⌝ }
+    ensures { λ x. ⌜ ((path : List ℕ) → Decides (decode (now (b .entry))) path x (finished (storeView (decode (now (b .entry)))) action (asPlaced (namespace (decode (now (b .entry)) .volume)) path placed) (termsOver granted share) deletes)) ⌝ }
 {
     let place = open_place(b);
     match place {
@@ -120,15 +121,16 @@ fn finish(
             granted,
             share,
             handle,
+            delete_on_close: deletes,
             row,
         }),
     }
 }
 
 // The sharing check of a stream that is there, then step 10's share-read rule.
-fn complete_existing(b: &[u8], e: ExistingOpen) -> DecidedOpen
+fn complete_existing(b: &[u8], deletes: bool, e: ExistingOpen) -> DecidedOpen
     requires { ⌜ length (now b) ≡ tablesSize ⌝ }
-    ensures { λ x. ⌜ ((path : List ℕ) → Decides (decode (now (b .entry))) path x (definitions.complete (storeView (decode (now (b .entry)))) (namespace (decode (now (b .entry)) .volume)) (existing (asExisting e)))) ⌝ }
+    ensures { λ x. ⌜ ((path : List ℕ) → Decides (decode (now (b .entry))) path x (definitions.complete (storeView (decode (now (b .entry)))) (namespace (decode (now (b .entry)) .volume)) deletes (existing (asExisting e)))) ⌝ }
 {
     let stream = e.stream;
     let file = e.file;
@@ -148,15 +150,16 @@ fn complete_existing(b: &[u8], e: ExistingOpen) -> DecidedOpen
                 PlacedOpen::Existing(file, stream, attributes),
                 e.granted,
                 share,
+                deletes,
             )
         }
     }
 }
 
 // Step 12 for a new stream.
-fn complete_stream(b: &[u8], s: StreamToAdd) -> DecidedOpen
+fn complete_stream(b: &[u8], deletes: bool, s: StreamToAdd) -> DecidedOpen
     requires { ⌜ length (now b) ≡ tablesSize ⌝ }
-    ensures { λ x. ⌜ ((path : List ℕ) → Decides (decode (now (b .entry))) path x (definitions.complete (storeView (decode (now (b .entry)))) (namespace (decode (now (b .entry)) .volume)) (creating (newStream (s .file) (asLeaf path (s .leaf)) (s .attributes)) (termsOver (s .granted) (s .share))))) ⌝ }
+    ensures { λ x. ⌜ ((path : List ℕ) → Decides (decode (now (b .entry))) path x (definitions.complete (storeView (decode (now (b .entry)))) (namespace (decode (now (b .entry)) .volume)) deletes (creating (newStream (s .file) (asLeaf path (s .leaf)) (s .attributes)) (termsOver (s .granted) (s .share))))) ⌝ }
 {
     let slot = free_stream(b, 0);
     let StreamSlot::At(stream) = slot else {
@@ -168,6 +171,7 @@ fn complete_stream(b: &[u8], s: StreamToAdd) -> DecidedOpen
         PlacedOpen::NewStream(s, stream),
         s.granted,
         s.share,
+        deletes,
     )
 }
 
@@ -219,9 +223,9 @@ fn file_place(b: &[u8], named: bool) -> FilePlace
 }
 
 // Step 12 for a new file: a stream that the path names gets a slot of its own.
-fn complete_file(b: &[u8], path: &[u16], f: FileToAdd) -> DecidedOpen
+fn complete_file(b: &[u8], path: &[u16], deletes: bool, f: FileToAdd) -> DecidedOpen
     requires { ⌜ length (now b) ≡ tablesSize ⌝ }
-    ensures { λ x. ⌜ Decides (decode (now (b .entry))) (now (path .entry)) x (definitions.complete (storeView (decode (now (b .entry)))) (namespace (decode (now (b .entry)) .volume)) (creating (newFile (f .dir) (asLeaf (now (path .entry)) (f .leaf)) (asFile (decode (now (b .entry)) .volume .files) f)) (termsOver (f .granted) (f .share)))) ⌝ }
+    ensures { λ x. ⌜ Decides (decode (now (b .entry))) (now (path .entry)) x (definitions.complete (storeView (decode (now (b .entry)))) (namespace (decode (now (b .entry)) .volume)) deletes (creating (newFile (f .dir) (asLeaf (now (path .entry)) (f .leaf)) (asFile (decode (now (b .entry)) .volume .files) f)) (termsOver (f .granted) (f .share)))) ⌝ }
 {
     let leaf = f.leaf;
     let name = leaf.stream;
@@ -234,19 +238,20 @@ fn complete_file(b: &[u8], path: &[u16], f: FileToAdd) -> DecidedOpen
             PlacedOpen::NewFile(f, slots),
             f.granted,
             f.share,
+            deletes,
         ),
     }
 }
 
-// Whether a pending open is accepted.
-pub fn complete(b: &[u8], path: &[u16], pending: PendingOpen) -> DecidedOpen
+// Whether a pending open is accepted; `deletes` says whether it deletes on close.
+pub fn complete(b: &[u8], path: &[u16], deletes: bool, pending: PendingOpen) -> DecidedOpen
     requires { ⌜ length (now b) ≡ tablesSize ⌝ }
-    ensures { λ x. ⌜ Decides (decode (now (b .entry))) (now (path .entry)) x (completed (storeView (decode (now (b .entry)))) (namespace (decode (now (b .entry)) .volume)) (asPending (decode (now (b .entry)) .volume .files) (now (path .entry)) pending)) ⌝ }
+    ensures { λ x. ⌜ Decides (decode (now (b .entry))) (now (path .entry)) x (completed (storeView (decode (now (b .entry)))) (namespace (decode (now (b .entry)) .volume)) deletes (asPending (decode (now (b .entry)) .volume .files) (now (path .entry)) pending)) ⌝ }
 {
     match pending {
         PendingOpen::Refused(status) => DecidedOpen::Refused(status),
-        PendingOpen::Existing(e) => complete_existing(b, e),
-        PendingOpen::NewStream(s) => complete_stream(b, s),
-        PendingOpen::NewFile(f) => complete_file(b, path, f),
+        PendingOpen::Existing(e) => complete_existing(b, deletes, e),
+        PendingOpen::NewStream(s) => complete_stream(b, deletes, s),
+        PendingOpen::NewFile(f) => complete_file(b, path, deletes, f),
     }
 }

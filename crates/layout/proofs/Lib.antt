@@ -8,5 +8,6 @@ pub mod Typed
 pub mod Parts
 pub mod InPlace
 pub mod Stands
+pub mod Changes
 pub mod Zeros
 pub mod Calls

@@ -1,6 +1,6 @@
 -- The walk at a place of the path before the last component: at its end, at a component that leads into a directory, and
 -- at one that does not.
-use Rattle.base.{specs.Base.{ℕ, _≡_, Bool, true, false, cond, List, [], _∷_, Option, none, some, drop, isEmpty, root, isDirectory, Namespace, namespace, Checked, refused, passed, refuse, _>>=_, Status, ObjectPathNotFound, FileNo, LinkNo, FileType, Volume}, proofs.Laws.{refl}}
+use Rattle.base.{specs.Base.{ℕ, _≡_, Bool, true, false, cond, List, [], _∷_, Option, none, some, drop, isEmpty, not, root, isDirectory, Namespace, namespace, Checked, refused, passed, refuse, _>>=_, _>>_, refuseIf, Status, ObjectPathNotFound, DeletePending, FileNo, LinkNo, FileType, Volume}, proofs.Laws.{refl}}
 use Rattle.components.{specs.{Components.components, Positions.{nextComponent, partOf}}, proofs.Places.{next-found, next-none}}
 use Rattle.paths.specs.Paths.{Leaf}
 use Rattle.tables.specs.Tables.{fileAt, linkAt}
@@ -15,12 +15,23 @@ module _ (v : Volume) where
   step-lost none e = refl
   step-lost (some l) e = cc
 
-  pub step-found : (o : Option LinkNo) {l : LinkNo} {next : FileNo} {kind : FileType} {b : Bool} → foundLink o ≡ At l
-      → next ≡ linkAt (v .links) l .file → kind ≡ fileAt (v .files) next .«file_type» → b ≡ isDirectory kind
-      → stepInto (namespace v) o ≡ cond b (passed next) (refuse ObjectPathNotFound)
-  unfolding foundLink stepInto namespace
-  step-found none e f g h = cc
-  step-found (some m) {l} e f g h = let q : m ≡ l = cc in rw (q, ← f, ← g, ← h)
+  pub step-found : (o : Option LinkNo) {l : LinkNo} {next : FileNo} {marked : Bool} {kind : FileType} {b : Bool} → foundLink o ≡ At l
+      → next ≡ linkAt (v .links) l .file → marked ≡ fileAt (v .files) next .«delete_pending»
+      → kind ≡ fileAt (v .files) next .«file_type» → b ≡ isDirectory kind
+      → stepInto (namespace v) o ≡ cond marked (refuse DeletePending) (cond b (passed next) (refuse ObjectPathNotFound))
+  unfolding foundLink stepInto namespace refuseIf _>>_
+  step-found none e f m g h = cc
+  step-found (some k) {l} {next} {marked} {kind} {b} e f m g h = let q : k ≡ l = cc in rw (q, ← f, ← m, ← g, ← h) (tests marked b)
+    where
+      tests : (marked b : Bool)
+          → (do
+            refuseIf marked DeletePending
+            refuseIf (not b) ObjectPathNotFound
+            passed next)
+          ≡ cond marked (refuse DeletePending) (cond b (passed next) (refuse ObjectPathNotFound))
+      tests true b = refl
+      tests false true = refl
+      tests false false = refl
 
 -- the walk from a directory, by what is left of the components
 
@@ -64,7 +75,9 @@ module _ (ns : Namespace) (fold : Bool) (dir : FileNo) (name parents : List ℕ)
 -- where the walk leads
 
 unfoldable pub placeFrom : Namespace → Leaf → Walked → Checked Place
-placeFrom ns leaf (End.Link l) = passed (foundBy ns l)
+placeFrom ns leaf (End.Link l) = do
+  refuseIf (fileAt (ns .files) (linkAt (ns .links) l .file) .«delete_pending») DeletePending
+  passed (foundBy ns l)
 placeFrom ns leaf (End.Missing dir) = passed (missing dir leaf)
 placeFrom ns leaf (End.Refused s) = refuse s
 
@@ -79,11 +92,11 @@ module _ (ns : Namespace) (fold : Bool) (parents : List (List ℕ)) (leaf : Leaf
   unfolding placeFrom walkedFrom walkEnds lastStep foundLink locate locateLeaf placeIn _>>=_
   walk-leads named = rw (named, locate) (go (descend ns fold root parents))
     where
-      step : (dir : FileNo) (o : Option LinkNo) → placeFrom ns leaf (lastStep dir (foundLink o)) ≡ passed (placeIn ns dir leaf o)
+      step : (dir : FileNo) (o : Option LinkNo) → placeFrom ns leaf (lastStep dir (foundLink o)) ≡ placeIn ns dir leaf o
       step dir none = refl
       step dir (some l) = refl
 
       go : (d : Checked FileNo)
-          → placeFrom ns leaf (walkEnds ns fold (leaf .file) d) ≡ (d >>= λ dir. passed (locateLeaf ns fold dir leaf))
+          → placeFrom ns leaf (walkEnds ns fold (leaf .file) d) ≡ (d >>= λ dir. locateLeaf ns fold dir leaf)
       go (refused r) = refl
       go (passed dir) = step dir (findLink ns fold dir (leaf .file))

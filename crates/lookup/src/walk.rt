@@ -12,6 +12,7 @@ use paths::ParsedPath;
 use records::FileNo;
 use records::Status;
 use records::slots::is_directory;
+use records_files::read_file_mark;
 use records_files::read_file_type;
 use records_links::read_link_file;
 ghost use mathlib.Core.Path.{_≡_};
@@ -25,7 +26,7 @@ ghost use Rattle.lookup.specs.Lookup.{locate};
 ghost use Rattle.lookup.specs.Answers.{walkedFrom, asPlace, pathTo, leafNames, locateParsed};
 
 // From the root through the components before `last`, each a directory, to the link that the directory has for `last`.
-// A file number past its table is no directory.
+// A file that is marked ends the walk, whatever its kind; a file number past its table is no directory, and has no mark.
 fn walk_path(b: &[u8], path: &[u16], last: Part, fold: bool) -> Walked
     requires { ⌜ length (now b) ≡ tablesSize ⌝ }
     ensures { λ r. ⌜ r ≡ walkedFrom (namespace (decode (now (b .entry)) .volume)) fold root (parentsOf (now (path .entry)) last) (partOf (now (path .entry)) last) ⌝ }
@@ -48,6 +49,10 @@ fn walk_path(b: &[u8], path: &[u16], last: Part, fold: bool) -> Walked
             return Walked::Refused(Status::ObjectPathNotFound);
         };
         let file = read_link_file(b, link);
+        let marked = read_file_mark(b, file);
+        if marked {
+            break 'components Walked::Refused(Status::DeletePending);
+        }
         if !is_directory(read_file_type(b, file)) {
             break 'components Walked::Refused(Status::ObjectPathNotFound);
         }
@@ -56,7 +61,7 @@ fn walk_path(b: &[u8], path: &[u16], last: Part, fold: bool) -> Walked
     }
 }
 
-// Where a path with a last component leads; without a name it is the root's.
+// Where a path with a last component leads; without a name it is the root's. A marked file is refused here too.
 fn locate_leaf(b: &[u8], path: &[u16], leaf: LeafParts, fold: bool) -> Located
     requires { ⌜ length (now b) ≡ tablesSize ⌝ }
     ensures { λ r. ⌜ asPlace (asLeaf (now (path .entry)) leaf) r ≡ locate (namespace (decode (now (b .entry)) .volume)) fold (pathTo (now (path .entry)) leaf) ⌝ }
@@ -70,6 +75,9 @@ fn locate_leaf(b: &[u8], path: &[u16], leaf: LeafParts, fold: bool) -> Located
     match walked {
         Walked::Link(link) => {
             let file = read_link_file(b, link);
+            if read_file_mark(b, file) {
+                return Located::Refused(Status::DeletePending);
+            }
             Located::Found(link, file)
         }
         Walked::Missing(dir) => Located::Missing(dir),

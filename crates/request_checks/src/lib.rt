@@ -2,6 +2,8 @@
 use records::Request;
 use records::constants::APPEND_DATA;
 use records::constants::CREATE;
+use records::constants::DELETE;
+use records::constants::DELETE_ON_CLOSE;
 use records::constants::DIRECTORY_FILE;
 use records::constants::NON_DIRECTORY_FILE;
 use records::constants::OPEN_IF;
@@ -13,7 +15,7 @@ ghost use mathlib.Core.Path.{_≡_};
 ghost use mathlib.Core.List.{[], _∷_};
 ghost use Rattle.lists.specs.Lists.{oneOf};
 ghost use Rattle.records.specs.Constants.{supersede, openOnly, openIf, overwrite, overwriteIf};
-ghost use Rattle.store.specs.Request.{wantsDirectory, wantsFile, badParameters, badAccess, wantsBoth, writesVolume};
+ghost use Rattle.store.specs.Request.{wantsDirectory, wantsFile, deletesOnClose, badParameters, badAccess, wantsBoth, writesVolume};
 
 // A directory is asked for.
 pub fn wants_directory(r: Request) -> bool
@@ -27,6 +29,13 @@ pub fn wants_file(r: Request) -> bool
     ensures { λ x. ⌜ x ≡ wantsFile r ⌝ }
 {
     bits::has(r.options, NON_DIRECTORY_FILE)
+}
+
+// The open's close shall mark what it opened.
+pub fn deletes_on_close(r: Request) -> bool
+    ensures { λ x. ⌜ x ≡ deletesOnClose r ⌝ }
+{
+    bits::has(r.options, DELETE_ON_CLOSE)
 }
 
 // The disposition replaces what is there: supersede, overwrite, overwrite-if.
@@ -43,10 +52,11 @@ pub fn bad_parameters(r: Request) -> bool
     (7 < r.account)
         | (7 < r.share)
         | (5 < r.disposition)
-        | !bits::within(r.options, 0x2_004F)
+        | !bits::within(r.options, 0x2_104F)
         | !bits::within(r.attributes, 0x31A7)
         | !bits::within(r.access, 0x0FFF_FFFF)
         | (bits::has(r.options, 0x8) & bits::has(r.access, APPEND_DATA))
+        | (deletes_on_close(r) & !bits::has(r.access, DELETE))
         | (wants_directory(r) & (bits::has(r.options, 0x2_000C) | replaces(r.disposition)))
 }
 

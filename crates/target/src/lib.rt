@@ -15,6 +15,7 @@ use records::Status;
 use records::constants::CREATE;
 use records::slots::is_directory;
 use records_files::read_file_type;
+use records_streams::read_stream_mark;
 use records_volume::read_mark;
 use request_checks::adds_nothing;
 use request_checks::bad_access;
@@ -115,16 +116,19 @@ fn target_directory(b: &[u8], r: Request, at: FoundFile) -> FoundTarget
     }
 }
 
-// Step 11: a found data file, by the stream of the last component's name.
+// Step 11: a found data file, by the stream of the last component's name; one that is marked is refused first.
 fn target_data(b: &[u8], r: Request, path: &[u16], leaf: LeafParts, at: FoundFile) -> FoundTarget
     requires { ⌜ length (now b) ≡ tablesSize ⌝ }
-    ensures { λ x. ⌜ asTarget (now (path .entry)) x ≡ targetData r (asResolved at) (asLeaf (now (path .entry)) leaf) (findStream (namespace (decode (now (b .entry)) .volume)) (r .fold) (at .file) (partOf (now (path .entry)) (leaf .stream))) ⌝ }
+    ensures { λ x. ⌜ asTarget (now (path .entry)) x ≡ targetData (namespace (decode (now (b .entry)) .volume)) r (asResolved at) (asLeaf (now (path .entry)) leaf) (findStream (namespace (decode (now (b .entry)) .volume)) (r .fold) (at .file) (partOf (now (path .entry)) (leaf .stream))) ⌝ }
 {
     let file = at.file;
     let name = leaf.stream;
     let found = find_stream(b, file, part_of(path, name), r.fold);
     match found {
         FoundStream::At(stream) => {
+            if read_stream_mark(b, stream) {
+                return FoundTarget::Refused(Status::DeletePending);
+            }
             if r.disposition == CREATE {
                 return FoundTarget::Refused(Status::ObjectNameCollision);
             }

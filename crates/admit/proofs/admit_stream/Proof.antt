@@ -1,31 +1,31 @@
--- `admit::admit_stream` meets its contract: the access rule, then the volume's mark.
+-- `admit::admit_stream` meets its contract: what is granted, then the volume's mark.
 use Rattle.base.{specs.Base.{_>>=_, _>>_, refuseIf, namespace}, proofs.Laws.{needs}}
-use Rattle.access.specs.Access.{checkedAccess}
-use Rattle.store.specs.Prepare.{grant, admitStream}
+use Rattle.store.specs.Prepare.{admitStream}
 use Rattle.open_steps.specs.Pendings.{asPending}
+use Rattle.admit.specs.Admitted.{asTerms}
 use Rattle.admit.proofs.admit_stream.Statement.{statement}
 use Rattle.admit.proofs.admit_stream.Tie as tie
 
 returns : tie.Need-returns
-unfolding asPending admitStream grant checkedAccess _>>=_ namespace
-returns c path = rw (← c .before .before .grant .ensures, c .enum-told .given .1)
-
-returns-2 : tie.Need-returns-2
-unfolding asPending admitStream refuseIf _>>_ grant checkedAccess _>>=_ namespace
-returns-2 c path =
+unfolding asPending asTerms admitStream refuseIf _>>_ _>>=_ namespace
+returns c path =
     let m = c .before in
     let k = m .before .before in
-    rw (← k .before .before .grant .ensures, k .access .given .1, ← m .read-mark .ensures, c .if1 .taken)
+    rw (← k .before .before .grant .ensures, k .access2 .given .1, ← m .read-mark .ensures, c .if1 .taken)
+
+returns-2 : tie.Need-returns-2
+unfolding asPending asTerms admitStream _>>=_
+returns-2 c path = let k = c .before in rw (← k .before .before .grant .ensures, k .access .given .1)
 
 returns-3 : tie.Need-returns-3
-unfolding asPending admitStream refuseIf _>>_ grant checkedAccess _>>=_ namespace
+unfolding asPending asTerms admitStream refuseIf _>>_ _>>=_ namespace
 returns-3 c path =
     let f = c .before in
     let m = f .before .before in
     let k = m .before .before in
     rw (
       ← k .before .before .grant .ensures,
-      k .access .given .1,
+      k .access2 .given .1,
       ← m .read-mark .ensures,
       f .before .if1 .left,
       ← f .read-file .ensures,
@@ -33,4 +33,4 @@ returns-3 c path =
 
 pub admit-stream-spec : {M : Type 1} → statement M
 admit-stream-spec =
-    tie.close (tie.spec (λ c κs. search needs) (λ c. search needs) (λ c. search needs) returns (λ c κs. search needs) returns-2 (λ c κs. search needs) returns-3)
+    tie.close (tie.spec (λ c κs. search needs) (λ c. search needs) (λ c. search needs) (λ c κs. search needs) returns (λ c κs. search needs) returns-2 returns-3)

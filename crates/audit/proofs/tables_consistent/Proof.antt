@@ -33,37 +33,65 @@ returns-2 c =
 returns-3 : tie.Need-returns-3
 unfolding consistent
 returns-3 c =
+    let l = c .before .before .before in
+    let f = l .before .before in
     sym
     (rw (
       consistent,
-      passed (c .before .before .before .before .before .files-consistent .ensures) (c .before .before .before .before .if1 .left),
-      passed (c .before .before .before .links-consistent .ensures) (c .before .before .if2 .left),
+      passed (f .files-consistent .ensures) (l .before .if1 .left),
+      passed (l .links-consistent .ensures) (c .before .before .if2 .left),
       failed (c .before .streams-consistent .ensures) (c .if3 .taken),
     ))
 
 returns-4 : tie.Need-returns-4
 unfolding consistent
 returns-4 c =
+    let s = c .before .before .before in
+    let l = s .before .before in
+    let f = l .before .before in
     sym
     (rw (
       consistent,
-      passed (c .before .before .before .before .before .before .before .files-consistent .ensures) (c .before .before .before .before .before .before .if1 .left),
-      passed (c .before .before .before .before .before .links-consistent .ensures) (c .before .before .before .before .if2 .left),
-      passed (c .before .before .before .streams-consistent .ensures) (c .before .before .if3 .left),
+      passed (f .files-consistent .ensures) (l .before .if1 .left),
+      passed (l .links-consistent .ensures) (s .before .if2 .left),
+      passed (s .streams-consistent .ensures) (c .before .before .if3 .left),
       failed (c .before .opens-consistent .ensures) (c .if4 .taken),
     ))
 
 returns-5 : tie.Need-returns-5
 unfolding consistent
 returns-5 c =
+    let o = c .before .before .before in
+    let s = o .before .before in
+    let l = s .before .before in
+    let f = l .before .before in
+    sym
+    (rw (
+      consistent,
+      passed (f .files-consistent .ensures) (l .before .if1 .left),
+      passed (l .links-consistent .ensures) (s .before .if2 .left),
+      passed (s .streams-consistent .ensures) (o .before .if3 .left),
+      passed (o .opens-consistent .ensures) (c .before .before .if4 .left),
+      failed (c .before .no-conflicts .ensures) (c .if5 .taken),
+    ))
+
+returns-6 : tie.Need-returns-6
+unfolding consistent
+returns-6 c =
+    let n = c .before .before in
+    let o = n .before .before in
+    let s = o .before .before in
+    let l = s .before .before in
+    let f = l .before .before in
     rw (
       consistent,
-      passed (c .before .before .before .before .before .before .before .before .files-consistent .ensures) (c .before .before .before .before .before .before .before .if1 .left),
-      passed (c .before .before .before .before .before .before .links-consistent .ensures) (c .before .before .before .before .before .if2 .left),
-      passed (c .before .before .before .before .streams-consistent .ensures) (c .before .before .before .if3 .left),
-      passed (c .before .before .opens-consistent .ensures) (c .before .if4 .left),
+      passed (f .files-consistent .ensures) (l .before .if1 .left),
+      passed (l .links-consistent .ensures) (s .before .if2 .left),
+      passed (s .streams-consistent .ensures) (o .before .if3 .left),
+      passed (o .opens-consistent .ensures) (n .before .if4 .left),
+      passed (n .no-conflicts .ensures) (c .before .if5 .left),
     )
-    (c .no-conflicts .ensures)
+    (c .marks-consistent .ensures)
 
 pub tables-consistent-spec : {M : Type 1} → statement M
 tables-consistent-spec =
@@ -78,4 +106,6 @@ tables-consistent-spec =
     (λ c κs. search needs)
     returns-4
     (λ c κs. search needs)
-    returns-5)
+    returns-5
+    (λ c κs. search needs)
+    returns-6)

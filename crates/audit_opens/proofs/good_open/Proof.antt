@@ -6,7 +6,9 @@ use Rattle.audit_opens.proofs.good_open.Tie as tie
 
 returns : tie.Need-returns
 unfolding goodOpen bareUsed
-returns c = rw (← c .before .before .before .before .before .before .is-used .ensures, ← c .before .before .within .ensures)
+returns c =
+    let w = c .before .before .before .before in
+    rw (← w .before .before .before .before .is-used .ensures, ← w .within .ensures)
 
 pub good-open-spec : {M : Type 1} → statement M
 good-open-spec = tie.close (tie.spec (λ c κs. search needs) (λ c κs. search needs) returns)

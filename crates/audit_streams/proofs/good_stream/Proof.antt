@@ -13,15 +13,18 @@ returns c =
 returns-2 : tie.Need-returns-2
 unfolding bare
 returns-2 c =
-    let n = c .before .before .before .before in
+    let d = c .before in
+    let u = d .before .before .before in
+    let n = u .before .before .before in
     let a = n .before .before .before .args in
     rw (
       stream-parts (a .of) (bare (a .s)),
       ← n .good-stream-name .ensures,
-      not-false (n .good-stream-name .result) (c .before .before .before .if1 .left),
-      ← c .before .before .is-used .ensures,
-      ← c .before .is-directory .ensures,
-      ← c .is-directory2 .ensures,
+      not-false (n .good-stream-name .result) (u .before .before .if1 .left),
+      ← d .before .before .is-used .ensures,
+      ← d .before .is-directory .ensures,
+      ← d .is-directory2 .ensures,
+      ← u .unit-at .ensures,
     )
 
 pub good-stream-spec : {M : Type 1} → statement M
@@ -31,6 +34,8 @@ good-stream-spec =
     (λ c. search needs)
     (λ c κs. search needs)
     returns
+    (λ c. search needs)
+    (λ c κs. search needs)
     (λ c κs. search needs)
     (λ c κs. search needs)
     (λ c κs. search needs)

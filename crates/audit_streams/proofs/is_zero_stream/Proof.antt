@@ -1,5 +1,5 @@
 -- `audit_streams::is_zero_stream` meets its contract.
-use Rattle.base.{specs.Base.bare, proofs.Laws.{eq-eqb, ne-eqb, needs}}
+use Rattle.base.{specs.Base.bare, proofs.Laws.needs}
 use Rattle.consistency.specs.Good.{isZeroStream}
 use Rattle.records.proofs.Lengths.{stream-name-length}
 use Rattle.audit_streams.proofs.is_zero_stream.Statement.{statement}
@@ -8,13 +8,10 @@ use Rattle.audit_streams.proofs.is_zero_stream.Tie as tie
 returns : tie.Need-returns
 unfolding isZeroStream bare
 returns c =
-    let a = c .before .before .before .before .before in
-    let zero = rw (stream-name-length (a .args .s) _ (a .good .0)) at (c .zero-name .ensures) in
-    rw (isZeroStream, eq-eqb _ _ (c .before .before .if1 .taken)) zero
-
-returns-2 : tie.Need-returns-2
-unfolding isZeroStream bare
-returns-2 c = rw (isZeroStream, ne-eqb _ _ (c .if1 .left))
+    let z = c .before in
+    let a = z .before .before .before .before in
+    let zero = rw (stream-name-length (a .args .s) _ (a .good .0)) at (z .zero-name .ensures) in
+    rw (isZeroStream, ← zero)
 
 pub is-zero-stream-spec : {M : Type 1} → statement M
-is-zero-stream-spec = tie.close (tie.spec (λ c. search needs) (λ c κs. search needs) returns returns-2)
+is-zero-stream-spec = tie.close (tie.spec (λ c. search needs) (λ c κs. search needs) returns)

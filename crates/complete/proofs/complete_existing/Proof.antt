@@ -19,8 +19,8 @@ past : (m : tie.After-sharing-mode) →
     let a = m .before .before .before .before .before .before .before .before .args in
     let view = storeView (decode (a .b .now)) in
     let ns = namespace (decode (a .b .now) .volume) in
-    complete view ns (existing (asExisting (a .e)))
-    ≡ (asTerms (a .e .granted) (m .sharing-mode .result) >>= finished view (a .e .action) (placeExisting ns (asExisting (a .e))))
+    complete view ns (a .deletes) (existing (asExisting (a .e)))
+    ≡ (asTerms (a .e .granted) (m .sharing-mode .result) >>= λ terms. finished view (a .e .action) (placeExisting ns (asExisting (a .e))) terms (a .deletes))
 unfolding complete asExisting finished storeView refuseIf _>>_
 past m =
     let alone = m .before in

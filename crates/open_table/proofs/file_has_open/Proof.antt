@@ -1,56 +1,46 @@
 -- `open_table::file_has_open` meets its contract. The invariant: what is asked is what the rest of the table says.
-use Rattle.base.{specs.Base.{_-_, _≡_, Bool, _&&_, eqb, drop, any, openSlots, openUsed, zeroOpen, FileNo, Open}, proofs.Laws.{sym, _∙_, ⊎-elim, arith, needs, eq-eqb, ne-eqb, any-here, any-next, any-none, any-keep}}
-use mathlib.Core.Bool.{and-false}
-use Rattle.layout.{specs.Layout.decode, proofs.Lengths.opens-count}
-use Rattle.tables.specs.Tables.{rowAt, live}
+use Rattle.base.{specs.Base.{ℕ, _-_, openSlots, openUsed, Open}, proofs.Laws.{sym, ⊎-elim, arith, needs}}
+use Rattle.tables.specs.Tables.{anyOnFile}
+use Rattle.open_table.proofs.Asked.{Asked, asked-begins, asked-found, asked-free, asked-other, asked-ends}
 use Rattle.open_table.proofs.file_has_open.Statement.{statement}
-use Rattle.open_table.specs.Rows.{anyOnFile, fileHasOpen}
 use Rattle.open_table.proofs.file_has_open.Tie as tie
 
-abbrev on : FileNo → Open → Bool
-on f o = openUsed o && eqb (o .file .0) (f .0)
+abbrev key : Open → ℕ
+key o = o .file .0
 
 abbrev Inv-loop : tie.InvT-loop
-Inv-loop b f i₀ i = let rows = decode b .opens .rows in fileHasOpen rows f ≡ any (on f) (drop i rows)
+Inv-loop b f i₀ i = Asked key (f .0) b i
 
 abbrev μ-loop : tie.MeasureT-loop
 μ-loop b f i₀ i = openSlots - i
 
-loop-holds : tie.Need-loop-holds Inv-loop μ-loop
-unfolding anyOnFile live
-loop-holds c = let a = c .before .args in any-keep openUsed (λ o. eqb (o .file .0) (a .f .0)) (decode (a .b .now) .opens .rows)
-
 returns : tie.Need-returns Inv-loop μ-loop
-unfolding rowAt openUsed
+unfolding anyOnFile openUsed
 returns c =
     let h = c .before .before in
     let r = h .before .before .before .before in
     let l = r .before .before in
     let a = l .before .before .args in
-    let n = opens-count (a .b .now) in
     sym
-    (l .loop .inv
-    ∙ any-here (on (a .f)) (decode (a .b .now) .opens .rows) (l .loop .i) zeroOpen (omega arith)
-    (rw (← h .read-handle .ensures, ← r .read-open-file .ensures, c .if2 .taken, eq-eqb _ _ (h .before .if1 .taken))))
+    (asked-found key (a .f .0) (a .b .now) (l .loop .i) (l .loop .inv) (omega arith) (rw (← h .read-handle .ensures, c .if2 .taken))
+    (rw (← r .read-open-file .ensures) (h .before .if1 .taken)))
 
 loop-again : tie.Need-loop-again Inv-loop μ-loop
-unfolding rowAt openUsed
+unfolding openUsed
 loop-again c =
     let r = c .before .before .before in
     let l = r .before .before in
     let a = l .before .before .args in
-    let n = opens-count (a .b .now) in
-    l .loop .inv
-    ∙ any-next (on (a .f)) (decode (a .b .now) .opens .rows) (l .loop .i) zeroOpen (omega arith)
-    (⊎-elim (λ w. rw (← w .1 .ensures, w .3 .left))
-    (λ w. rw (← r .read-open-file .ensures, ne-eqb _ _ (w .left), and-false)) (c .if1 .came))
+    ⊎-elim (λ w. asked-free key (a .f .0) (a .b .now) (l .loop .i) (l .loop .inv) (omega arith) (rw (← w .1 .ensures, w .3 .left)))
+    (λ w. asked-other key (a .f .0) (a .b .now) (l .loop .i) (l .loop .inv) (omega arith) (rw (← r .read-open-file .ensures) (w .left)))
+    (c .if1 .came)
 
 returns-2 : tie.Need-returns-2 Inv-loop μ-loop
+unfolding anyOnFile
 returns-2 c =
     let l = c .before in
     let a = l .before .before .args in
-    let n = opens-count (a .b .now) in
-    sym (l .loop .inv ∙ any-none (on (a .f)) (decode (a .b .now) .opens .rows) (l .loop .i) (omega arith))
+    sym (asked-ends key (a .f .0) (a .b .now) (l .loop .i) (l .loop .inv) (omega arith))
 
 pub file-has-open-spec : {M : Type 1} → statement M
 file-has-open-spec =
@@ -58,7 +48,7 @@ file-has-open-spec =
     (tie.spec
     Inv-loop
     μ-loop
-    loop-holds
+    (λ c. asked-begins key _ _)
     (λ c κs. search needs)
     (λ c κs. search needs)
     returns

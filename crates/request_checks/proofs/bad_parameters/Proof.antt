@@ -8,15 +8,17 @@ returns : tie.Need-returns
 unfolding badParameters
 returns c =
     rw (
-      c .before .before .before .before .before .before .before .within .ensures,
-      c .before .before .before .before .before .before .within2 .ensures,
-      c .before .before .before .before .before .within3 .ensures,
-      c .before .before .before .before .has .ensures,
-      c .before .before .before .has2 .ensures,
+      c .before .before .before .before .before .before .before .before .before .within .ensures,
+      c .before .before .before .before .before .before .before .before .within2 .ensures,
+      c .before .before .before .before .before .before .before .within3 .ensures,
+      c .before .before .before .before .before .before .has .ensures,
+      c .before .before .before .before .before .has2 .ensures,
+      c .before .before .before .before .deletes-on-close .ensures,
+      c .before .before .before .has3 .ensures,
       c .before .before .wants-directory .ensures,
-      c .before .has3 .ensures,
+      c .before .has4 .ensures,
       c .replaces .ensures,
     )
 
 pub bad-parameters-spec : {M : Type 1} → statement M
-bad-parameters-spec = tie.close (tie.spec (λ c κs. search needs) (λ c κs. search needs) (λ c κs. search needs) (λ c κs. search needs) (λ c κs. search needs) (λ c κs. search needs) (λ c κs. search needs) (λ c κs. search needs) returns)
+bad-parameters-spec = tie.close (tie.spec (λ c κs. search needs) (λ c κs. search needs) (λ c κs. search needs) (λ c κs. search needs) (λ c κs. search needs) (λ c κs. search needs) (λ c κs. search needs) (λ c κs. search needs) (λ c κs. search needs) (λ c κs. search needs) returns)

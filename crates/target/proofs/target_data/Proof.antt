@@ -1,6 +1,7 @@
 -- `target::target_data` meets its contract.
-use Rattle.base.{specs.Base.{_≡_, Option, _>>_, refuseIf, namespace, StreamNo}, proofs.Laws.{sym, _∙_, needs, eq-eqb, ne-eqb}}
+use Rattle.base.{specs.Base.{_≡_, Option, _>>_, refuseIf, BareStream, bareAt, bare, namespace, StreamNo}, proofs.Laws.{sym, ap, _∙_, needs, eq-eqb, ne-eqb}}
 use Rattle.components.specs.Positions.{partOf}
+use Rattle.consistency.proofs.Derived.{bare-at}
 use Rattle.layout.specs.Layout.{decode}
 use Rattle.open_steps.specs.Targets.{asTarget}
 use Rattle.store.specs.Target.{targetData}
@@ -19,29 +20,48 @@ module _ (f : tie.After-find-stream) where
   found e =
       rw (← f .before .part-of .ensures) (sym (f .find-stream .ensures) ∙ e)
 
+-- the mark of the stream that was found
+marked : (m : tie.After-read-stream-mark) →
+    let k = m .before .before in
+    let a = k .before .before .before .before .before .before .before .before .args in
+    m .read-stream-mark .result ≡ bareAt (namespace (decode (a .b .now) .volume) .streams) (k .found .given .0 .0) .deletePending
+unfolding namespace bare
+marked m = m .read-stream-mark .ensures ∙ sym (ap (λ (s : BareStream). s .deletePending) (bare-at _ _))
+
 returns : tie.Need-returns
 unfolding asTarget targetData refuseIf _>>_
 returns c =
-    let k = c .before .before .before in
-    rw (stream-at _ (found (k .before .before) (k .found .given .1)), eq-eqb _ _ (c .if1 .taken))
+    let m = c .before in
+    let k = m .before .before in
+    rw (stream-at _ (found (k .before .before) (k .found .given .1)), ← marked m, c .if1 .taken)
 
 returns-2 : tie.Need-returns-2
 unfolding asTarget targetData refuseIf _>>_
 returns-2 c =
-    let k = c .before .before in
-    rw (stream-missing _ (found (k .before .before) (k .enum-told .given .1)), ← c .before .adds-nothing .ensures, c .if2 .taken)
+    let i = c .before .before in
+    let m = i .before in
+    let k = m .before .before in
+    rw (stream-at _ (found (k .before .before) (k .found .given .1)), ← marked m, i .if1 .left, eq-eqb _ _ (c .if2 .taken))
 
 returns-3 : tie.Need-returns-3
 unfolding asTarget targetData refuseIf _>>_
 returns-3 c =
-    let k = c .before .before .before in
-    rw (stream-at _ (found (k .before .before) (k .found .given .1)), ne-eqb _ _ (c .if1 .left))
+    let k = c .before .before in
+    rw (stream-missing _ (found (k .before .before) (k .enum-told .given .1)), ← c .before .adds-nothing .ensures, c .if3 .taken)
 
 returns-4 : tie.Need-returns-4
 unfolding asTarget targetData refuseIf _>>_
 returns-4 c =
+    let i = c .before .before in
+    let m = i .before in
+    let k = m .before .before in
+    rw (stream-at _ (found (k .before .before) (k .found .given .1)), ← marked m, i .if1 .left, ne-eqb _ _ (c .if2 .left))
+
+returns-5 : tie.Need-returns-5
+unfolding asTarget targetData refuseIf _>>_
+returns-5 c =
     let k = c .before .before in
-    rw (stream-missing _ (found (k .before .before) (k .enum-told .given .1)), ← c .before .adds-nothing .ensures, c .if2 .left)
+    rw (stream-missing _ (found (k .before .before) (k .enum-told .given .1)), ← c .before .adds-nothing .ensures, c .if3 .left)
 
 pub target-data-spec : {M : Type 1} → statement M
 target-data-spec =
@@ -50,9 +70,11 @@ target-data-spec =
     (λ c κs. search needs)
     (λ c κs. search needs)
     (λ c. search needs)
+    (λ c κs. search needs)
     returns
+    returns-2
     (λ c. search needs)
     (λ c κs. search needs)
-    returns-2
     returns-3
-    returns-4)
+    returns-4
+    returns-5)

@@ -1,5 +1,5 @@
 -- `lookup::walk::locate_leaf` meets its contract: each end of the walk, as the place that it leads to.
-use Rattle.base.{specs.Base.{_≡_, some, namespace, passed, FileNo}, proofs.Laws.{sym, ap, _∙_, eq-eqb, ne-eqb, empty-length, needs}}
+use Rattle.base.{specs.Base.{_≡_, some, namespace, passed, _>>_, refuseIf, DeletePending}, proofs.Laws.{sym, ap, test-refuses, _∙_, eq-eqb, ne-eqb, empty-length, needs}}
 use Rattle.components.specs.Positions.{parentsOf}
 use Rattle.layout.specs.Layout.{decode}
 use Rattle.paths.specs.Positions.{asLeaf}
@@ -28,20 +28,33 @@ returns c =
     root-leads (namespace (decode (s .b .now) .volume)) (s .fold) (parentsOf (s .path .now) (s .leaf .file)) (asLeaf (s .path .now) (s .leaf))
     (rw (← c .before .part-of .ensures, ← empty-length) (eq-eqb _ _ (c .if1 .taken)))
 
+-- the last component's link, with its file's mark as it is
+at-link : (m : tie.After-read-file-mark) →
+    let s = m .before .before .before .before .before .before .before .before .before .before .before .args in
+    let ns = namespace (decode (s .b .now) .volume) in
+    refuseIf (m .read-file-mark .result) DeletePending >> passed (found (record { link = some (m .before .before .before .walked .given .0 .0); file = m .before .read-link-file .result }))
+    ≡ locate ns (s .fold) (pathTo (s .path .now) (s .leaf))
+unfolding placeFrom namespace
+at-link m =
+    let f = m .before in
+    let k = f .before .before in
+    rw (m .read-file-mark .ensures, f .read-link-file .ensures) (leads (k .before .before) (k .walked .given .1))
+
 returns-2 : tie.Need-returns-2
-unfolding asPlace placeFrom namespace
-returns-2 c =
-    let k = c .before .before in
-    ap (λ (f : FileNo). passed (found (record { link = some (k .walked .given .0 .0); file = f }))) (c .read-link-file .ensures)
-    ∙ leads (k .before .before) (k .walked .given .1)
+unfolding asPlace
+returns-2 c = sym (test-refuses _ _ (c .if2 .taken)) ∙ at-link (c .before)
 
 returns-3 : tie.Need-returns-3
-unfolding asPlace placeFrom
-returns-3 c = let k = c .before in leads (k .before .before) (k .walked2 .given .1)
+unfolding asPlace refuseIf _>>_
+returns-3 c = rw (c .if2 .left) at (at-link (c .before))
 
 returns-4 : tie.Need-returns-4
 unfolding asPlace placeFrom
-returns-4 c = let k = c .before in leads (k .before .before) (k .walked3 .given .1)
+returns-4 c = let k = c .before in leads (k .before .before) (k .walked2 .given .1)
+
+returns-5 : tie.Need-returns-5
+unfolding asPlace placeFrom
+returns-5 c = let k = c .before in leads (k .before .before) (k .walked3 .given .1)
 
 pub locate-leaf-spec : {M : Type 1} → statement M
 locate-leaf-spec =
@@ -52,8 +65,10 @@ locate-leaf-spec =
     (λ c κs. search needs)
     (λ c. search needs)
     (λ c κs. search needs)
-    (λ c. search needs)
-    (λ c. search needs)
+    (λ c κs. search needs)
     returns-2
+    (λ c. search needs)
+    (λ c. search needs)
     returns-3
-    returns-4)
+    returns-4
+    returns-5)

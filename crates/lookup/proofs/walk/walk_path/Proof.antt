@@ -1,6 +1,6 @@
 -- `lookup::walk::walk_path` meets its contract. The loop's invariant: the answer is that from the present directory through
 -- what is left of the path.
-use Rattle.base.{specs.Base.{ℕ, _-_, _≡_, Bool, true, false, cond, List, eqb, length, drop, root, namespace}, proofs.Laws.{sym, ap, subst, _∙_, ⊎-elim, arith, needs, eqb-true, eqb-false, not-true, not-false, length-take}}
+use Rattle.base.{specs.Base.{ℕ, _-_, _≡_, Bool, true, false, cond, List, eqb, length, drop, root, namespace}, proofs.Laws.{refl, sym, ap, subst, _∙_, ⊎-elim, arith, needs, eqb-true, eqb-false, not-true, not-false, length-take}}
 use mathlib.Core.Path.{subst⁻¹}
 use Rattle.components.{specs.{Components.components, Positions.{partOf, parentsOf, nextComponent}, declared.Part.Part}, proofs.Places.{part-before, next-order, next-within}}
 use Rattle.layout.specs.Layout.{decode}
@@ -89,7 +89,7 @@ returns c =
 
 components-less : tie.Need-components-less Inv-components μ-components
 components-less c =
-    let e = c .before .before .before .before .before .before .before in
+    let e = c .before .before .before .before .before .before .before .before .before in
     let n = e .before .before .before .before .before in
     let p = n .before in
     let parents = p .before .units-before .result .now in
@@ -102,7 +102,8 @@ components-again : tie.Need-components-again Inv-components μ-components
 components-again c =
     let d = c .before in
     let k = d .before in
-    let f = k .before in
+    let m = k .before .before in
+    let f = m .before in
     let l = f .before .before in
     let e = l .before .before in
     let n = e .before .before .before .before .before in
@@ -110,7 +111,7 @@ components-again c =
     let s = p .before .before .before .before .args in
     let parents = p .before .units-before .result .now in
     p .components .inv
-    ∙ walk-goes-on _ _ _ _ _ _ (more e) _ (step-found _ _ (found-next e ∙ l .found2 .given .1) (f .read-link-file .ensures) (k .read-file-type .ensures) (sym (not-false _ (c .if3 .left)) ∙ d .is-directory .ensures))
+    ∙ walk-goes-on _ _ _ _ _ _ (more e) _ (step-found _ _ (found-next e ∙ l .found2 .given .1) (f .read-link-file .ensures) (sym (k .before .if3 .left) ∙ m .read-file-mark .ensures) (k .read-file-type .ensures) (sym (not-false _ (c .if4 .left)) ∙ d .is-directory .ensures))
     ∙ ap (λ (q : Part). walkedFrom (namespace (decode (s .b .now) .volume)) (s .fold) (f .read-link-file .result) (components (drop (q .end) parents)) (partOf (s .path .now) (s .last))) (sym (n .read-component .ensures))
 
 returns-2 : tie.Need-returns-2 Inv-components μ-components
@@ -123,15 +124,27 @@ returns-3 c = sym (to-last (c .before .before) ∙ ap (lastStep _) (c .enum-told
 
 returns-4 : tie.Need-returns-4 Inv-components μ-components
 returns-4 c =
-    let d = c .before in
-    let k = d .before in
-    let f = k .before in
+    let m = c .before in
+    let f = m .before in
     let l = f .before .before in
     let e = l .before .before in
     let p = e .before .before .before .before .before .before in
     sym
     (p .components .inv
-    ∙ walk-stops _ _ _ _ _ _ (more e) _ (step-found _ _ (found-next e ∙ l .found2 .given .1) (f .read-link-file .ensures) (k .read-file-type .ensures) (sym (not-true _ (c .if3 .taken)) ∙ d .is-directory .ensures)))
+    ∙ walk-stops _ _ _ _ _ _ (more e) _ (step-found _ _ (found-next e ∙ l .found2 .given .1) (f .read-link-file .ensures) (sym (c .if3 .taken) ∙ m .read-file-mark .ensures) refl refl))
+
+returns-5 : tie.Need-returns-5 Inv-components μ-components
+returns-5 c =
+    let d = c .before in
+    let k = d .before in
+    let m = k .before .before in
+    let f = m .before in
+    let l = f .before .before in
+    let e = l .before .before in
+    let p = e .before .before .before .before .before .before in
+    sym
+    (p .components .inv
+    ∙ walk-stops _ _ _ _ _ _ (more e) _ (step-found _ _ (found-next e ∙ l .found2 .given .1) (f .read-link-file .ensures) (sym (k .before .if3 .left) ∙ m .read-file-mark .ensures) (k .read-file-type .ensures) (sym (not-true _ (c .if4 .taken)) ∙ d .is-directory .ensures)))
 
 pub walk-path-spec : {M : Type 1} → statement M
 walk-path-spec =
@@ -152,8 +165,10 @@ walk-path-spec =
     (λ c κs. search needs)
     (λ c κs. search needs)
     (λ c κs. search needs)
+    (λ c κs. search needs)
     components-less
     components-again
     returns-2
     returns-3
-    returns-4)
+    returns-4
+    returns-5)
