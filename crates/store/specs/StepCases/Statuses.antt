@@ -46,7 +46,7 @@ INSUFFICIENT_RESOURCES = 0xC000009A
 abbrev pub INVALID_HANDLE : ℕ
 INVALID_HANDLE = 0xC0000008
 
--- L1: delete on close
+-- of delete on close
 abbrev pub CANNOT_DELETE : ℕ
 CANNOT_DELETE = 0xC0000121
 
