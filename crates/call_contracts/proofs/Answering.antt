@@ -1,8 +1,8 @@
 -- What the definitions answer on sound bytes, by what was decided.
-use Rattle.base.{specs.Base.{ℕ, _≡_, true, Bool, List, Tables, Step, Checked, passed, refuse, _>>=_, concluded, refusedReply, done, namespace, Handle, Request, Status}, proofs.Laws._∙_}
+use Rattle.base.{specs.Base.{ℕ, _≡_, true, Bool, List, Tables, Step, Checked, passed, refuse, _>>=_, concluded, refusedReply, done, namespace, Handle, Open, Request, Status}, proofs.Laws._∙_}
 use Rattle.audit.specs.Sound.{soundBytes}
 use Rattle.layout.specs.Layout.{decode}
-use Rattle.store.specs.{Complete.{Decision, decide, Closing, decideClose}, Store.{storeView, opened, closed, volumeMarked, storeOpen, storeClose, storeSetReadOnly}}
+use Rattle.store.specs.{Complete.{Decision, decide}, Close.decideClose, Store.{storeView, opened, closed, volumeMarked, storeOpen, storeClose, storeSetReadOnly}}
 use Rattle.call_contracts.proofs.Performing.{sound-asks}
 
 -- what each call does on consistent tables
@@ -10,7 +10,7 @@ abbrev pub opening : Request → List ℕ → Tables → Checked (Step Tables)
 opening r units t = decide (storeView t) (namespace (t .volume)) r units >>= (λ d. passed (opened t d))
 
 abbrev pub closing : Handle → Tables → Checked (Step Tables)
-closing h t = decideClose (storeView t) h >>= (λ c. passed (closed t c))
+closing h t = decideClose (storeView t) h >>= (λ o. passed (closed t o))
 
 abbrev pub setting : Bool → Tables → Checked (Step Tables)
 setting b t = passed (done (record { volume = volumeMarked b (t .volume); opens = t .opens }))
@@ -36,9 +36,9 @@ module _ (bs : List ℕ) (sound : soundBytes bs ≡ true) where
     unfolding storeClose concluded _>>=_
     close-refuses s e = sound-asks (closing h) bs sound ∙ rw e
 
-    pub close-accepts : (c : Closing) → decideClose (storeView t) h ≡ passed c → storeClose t h ≡ closed t c
+    pub close-accepts : (o : Open) → decideClose (storeView t) h ≡ passed o → storeClose t h ≡ closed t o
     unfolding storeClose concluded _>>=_
-    close-accepts c e = sound-asks (closing h) bs sound ∙ rw e
+    close-accepts o e = sound-asks (closing h) bs sound ∙ rw e
 
   pub switch-sets : (b : Bool) → storeSetReadOnly t b ≡ done (record { volume = volumeMarked b (t .volume); opens = t .opens })
   unfolding storeSetReadOnly concluded

@@ -1,9 +1,9 @@
 -- A close and a switch as the writes make them: the open of a handle is the one in the row where the search finds it.
-use Rattle.base.{specs.Base.{ℕ, _≡_, Bool, false, List, [], _∷_, Option, none, some, getD, find, first, any, writes, zeroOpen, passed, refuse, _>>=_, someOr, Tables, Handle, InvalidHandle}, proofs.Laws.{refl, sym, _∙_, ap, Option·some-injective, none≢some, by-cases, none-iff, after-found, find-here, find-next, find-found}}
+use Rattle.base.{specs.Base.{ℕ, _≡_, Bool, false, List, [], _∷_, Option, none, some, getD, find, first, any, zeroOpen, passed, refuse, someOr, Tables, Handle, InvalidHandle}, proofs.Laws.{refl, sym, _∙_, ap, Option·some-injective, none≢some, by-cases, none-iff, after-found, find-here, find-next, find-found}}
 use Rattle.apply.specs.Applied.{struckFrom}
 use Rattle.layout.specs.Puts.{putMark}
 use Rattle.open_table.specs.Rows.{hasHandle}
-use Rattle.store.{specs.{Complete.{Closing, noChange, decideClose}, Store.{storeView, writeStreams, changedVolume, stored, rowsWithoutOpen, volumeWithoutOpen, closed, volumeMarked}}, proofs.Sequences.Opens.Close.handle-is}
+use Rattle.store.{specs.{Close.decideClose, Store.{storeView, stored, rowsWithoutOpen, volumeWithoutOpen, struck, volumeMarked}}, proofs.Sequences.Opens.Close.handle-is}
 use Rattle.tables.specs.Tables.{rowAt}
 
 -- the first element that passes stands at the first place that passes
@@ -32,18 +32,14 @@ module _ {A : Type 0} (p : A → Bool) where
       go none e = e
       go (some x) e = absurd (none≢some (sym h ∙ find-found p x xs x e .1))
 
--- a close of the open in a row
-abbrev pub closingOf : Tables → ℕ → Closing
-closingOf t row = record { struck = rowAt (t .opens) row; change = noChange }
-
 module _ (t : Tables) (h : Handle) where
   pub close-none : first (hasHandle h) (t .opens .rows) ≡ none → decideClose (storeView t) h ≡ refuse InvalidHandle
-  unfolding decideClose storeView someOr _>>=_
+  unfolding decideClose storeView someOr
   close-none e = rw (first-nowhere (hasHandle h) (t .opens .rows) e)
 
   module _ (row : ℕ) (found : first (hasHandle h) (t .opens .rows) ≡ some row) where
-    pub close-found : decideClose (storeView t) h ≡ passed (closingOf t row)
-    unfolding decideClose storeView someOr _>>=_ rowAt
+    pub close-found : decideClose (storeView t) h ≡ passed (rowAt (t .opens) row)
+    unfolding decideClose storeView someOr rowAt
     close-found = rw (first-there (hasHandle h) zeroOpen (t .opens .rows) row found)
 
     -- the row's own handle is the one that was asked for
@@ -51,9 +47,9 @@ module _ (t : Tables) (h : Handle) where
     unfolding rowAt
     own-handle = handle-is h _ (after-found (hasHandle h) zeroOpen (t .opens .rows) 0 row found .passes)
 
-    -- what is struck is what a close leaves
-    pub struck-is : closed t (closingOf t row) .state ≡ struckFrom t row zeroOpen
-    unfolding closed changedVolume volumeWithoutOpen writes writeStreams rowsWithoutOpen stored struckFrom
+    -- what is struck is what the definition strikes
+    pub struck-is : struck t (rowAt (t .opens) row) ≡ struckFrom t row zeroOpen
+    unfolding struck volumeWithoutOpen rowsWithoutOpen stored struckFrom
     struck-is = rw (own-handle, found)
 
 -- the switch writes the mark

@@ -1,13 +1,13 @@
 -- What the writes of an accepted open rely on: its handle is the next one, which is not the last, and the names that it
 -- stores fill their places, since step 4 passed them.
-use Rattle.base.{specs.Base.{ℕ, suc, _≤_, _≡_, true, false, not, _&&_, List, [], _∷_, Option, none, some, leb, eqb, length, all, isEmpty, same, padded, fileNameLimit, streamNameLimit, lastHandle, Namespace, Refusal, Checked, refused, passed, FileNo, Handle, Request}, proofs.Laws.{refl, arith, length-replicate, and-left, and-right, leb-iff, Ends, stops, goes, went, ends-bind, ends-test, ends-cond, ends-weaker}}
+use Rattle.base.{specs.Base.{ℕ, suc, _≤_, _≡_, Bool, true, false, not, _&&_, List, [], _∷_, Option, none, some, leb, eqb, length, all, isEmpty, same, padded, fileNameLimit, streamNameLimit, lastHandle, Namespace, Refusal, Checked, refused, passed, FileNo, Handle, Request}, proofs.Laws.{refl, arith, length-replicate, and-left, and-right, leb-iff, Ends, stops, goes, went, ends-bind, ends-test, ends-cond, ends-weaker}}
 use lib.ListN.{length-append}
 use Rattle.apply.specs.Applied.{StoredNames}
 use Rattle.codecs.specs.Codec.{Each}
 use Rattle.free_slots.specs.Free.{freeFile, freeLink, freeStream}
 use Rattle.names.specs.Names.{validUnit, validFileName, validStreamName}
 use Rattle.units.specs.Units.{dot}
-use Rattle.store.{specs.{Complete.{View, Placed, Decision, shareOf, streamNew, linkNew, placeFile, placeStreams, place, nextHandle, attributeChange, placeExisting, complete, decide}, Prepare.{Creation, newStream, newFile, Pending, existing, creating}}, proofs.Sequences.{Facts.{NamespaceConsistent, CreationFits, PendingFits}, Prepared.prepare-ends}}
+use Rattle.store.{specs.{Request.deletesOnClose, Complete.{View, Placed, Decision, shareOf, streamNew, linkNew, placeFile, placeStreams, place, nextHandle, attributeChange, placeExisting, complete, decide}, Prepare.{Creation, newStream, newFile, Pending, existing, creating}}, proofs.Sequences.{Facts.{NamespaceConsistent, CreationFits, PendingFits}, Prepared.prepare-ends}}
 
 -- a name that fits, with zeros after it, fills its places
 padded-fills : (limit : ℕ) (n : List ℕ) → length n ≤ limit → length (padded limit n) ≡ limit
@@ -80,16 +80,17 @@ handle-ends : (view : View)
 unfolding nextHandle
 handle-ends view = ends-test _ _ tt (λ a. ends-test _ _ tt (λ b. goes (refl, b)))
 
-complete-ends : (view : View) (ns : Namespace) (p : Pending) → PendingFits ns p → Ends Any (Storable view) (complete view ns p)
+complete-ends : (view : View) (ns : Namespace) (deletes : Bool) (p : Pending) → PendingFits ns deletes p
+    → Ends Any (Storable view) (complete view ns deletes p)
 unfolding complete placeExisting
-complete-ends view ns (existing e) fits =
+complete-ends view ns deletes (existing e) fits =
     ends-test _ _ tt
     (λ c.
     ends-bind (any-ends (shareOf (e .readSharing) _ (e .terms)))
     (λ t s.
     ends-bind (handle-ends view)
     (λ h q. goes (record { handle = q .0; notLast = q .1; names = attributes-names ns (e .file) (e .attributes) }))))
-complete-ends view ns (creating c t) fits =
+complete-ends view ns deletes (creating c t) fits =
     ends-bind (place-ends ns c (fits .0))
     (λ p names. ends-bind (handle-ends view) (λ h q. goes (record { handle = q .0; notLast = q .1; names = names })))
 
@@ -102,4 +103,4 @@ decided view ns r units d ok e = went (rw e at ends)
     ends : Ends Any (Storable view) (decide view ns r units)
     ends =
         ends-bind (ends-weaker (λ q early. tt) (λ p f. f) (prepare-ends ns r units ok))
-        (λ p f. complete-ends view ns p f)
+        (λ p f. complete-ends view ns (deletesOnClose r) p f)

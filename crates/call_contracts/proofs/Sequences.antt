@@ -5,7 +5,7 @@ use Rattle.consistency.specs.Relations.{validMasks}
 use Rattle.format.{specs.{Format.format, Bytes.formatBytes}, proofs.{Bytes.{other-length, invalid-masks, formatted}, Decoded.{same-reply, decoded-tables, success-stands}}}
 use Rattle.layout.{specs.Layout.{tablesSize, decode, standsForTables}, proofs.Calls.on-tables}
 use Rattle.reply_numbers.specs.Numbers.{answerSeen}
-use Rattle.store.{specs.{Store.{storeOpen, storeClose, storeSetReadOnly}, Model.{Model, modelFormat}, Calls.{Call, opens, closes, setsReadOnly, Run, run, storeStep, modelStep}, Sequences.Agree}, proofs.Sequences.{Theorem.every-sequence, Views.Related}}
+use Rattle.store.{specs.{Store.{storeOpen, storeClose, storeSetReadOnly}, Model.{Model, modelFormat}, Calls.{Call, opens, closes, setsReadOnly, Run, run, storeStep, modelStep}, Sequences.Agree}, proofs.Sequences.{Theorem.every-sequence, Related.Related}}
 use Rattle.call_contracts.specs.{Performs.{StandFor, Performs}, Sequences.{Made, noCall, nextCall, AgreeInBytes, EverySequenceOfCalls}}
 
 -- what each of the three calls promises is what a sequence asks of it

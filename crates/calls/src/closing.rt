@@ -1,4 +1,5 @@
-// A close: consistency, then the open that has the handle is found in the lent row of opens and struck.
+// A close: consistency, then the open that has the handle is found in the lent row of opens and struck, then what becomes
+// of its file and stream is settled.
 use crate::answers::done;
 use crate::answers::refused;
 use apply::strike_open;
@@ -10,6 +11,8 @@ use records::Answer;
 use records::Handle;
 use records::Status;
 use records::slots::ZERO_OPEN;
+use records_opens::read_open;
+use settle::settle;
 ghost use Rattle.store.specs.Store.{storeClose};
 ghost use Rattle.call_contracts.specs.Performs.{Performs};
 
@@ -23,6 +26,8 @@ pub fn close(b: &mut [u8], h: Handle) -> Answer
     let RowChange::At(row, free) = change else {
         return refused(Status::InvalidHandle);
     };
+    let o = read_open(b, row);
     strike_open(b, row, free);
+    settle(b, o);
     done()
 }

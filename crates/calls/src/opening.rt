@@ -9,6 +9,7 @@ use open_steps::DecidedOpen;
 use records::Answer;
 use records::Request;
 use records::Status;
+use request_checks::deletes_on_close;
 use target::find_target;
 ghost use mathlib.Core.Path.{_≡_};
 ghost use lib.ListN.{length};
@@ -27,7 +28,7 @@ fn decide(b: &[u8], r: Request, path: &[u16]) -> DecidedOpen
 {
     let target = find_target(b, r, path);
     let pending = admit(b, r, path, target);
-    complete(b, path, pending)
+    complete(b, path, deletes_on_close(r), pending)
 }
 
 pub fn open(b: &mut [u8], r: Request, path: &[u16]) -> Answer

@@ -1,7 +1,7 @@
 -- `calls::close` meets its contract: unsound bytes and an unknown handle are refused, and then the open is struck.
 use Rattle.base.{specs.Base.{_≡_, true}, proofs.Laws.{refl, sym, _∙_, arith, needs, not-true, not-false}}
 use Rattle.audit.specs.Sound.{soundBytes}
-use Rattle.call_contracts.proofs.{Performing.{performs-written, performs-refusal, performs-unsound, sound-stands, sound-long}, Answering.{closing, close-refuses, close-accepts}, Closed.{closingOf, close-none, close-found, struck-is}}
+use Rattle.call_contracts.proofs.{Performing.{performs-written, performs-refusal, performs-unsound, sound-stands, sound-long}, Answering.{closing, close-refuses, close-accepts}, Closed.{close-none, close-found, struck-is}}
 use Rattle.layout.specs.Layout.{decode}
 use Rattle.open_rows.specs.Change.{chosenRow, changedRow, openHeld}
 use Rattle.store.specs.Store.{storeClose, closed}
