@@ -9,12 +9,29 @@ use open_rows::RowChoice;
 use open_rows::change_row;
 use records::Answer;
 use records::Handle;
+use records::Open;
 use records::Status;
 use records::slots::ZERO_OPEN;
 use records_opens::read_open;
 use settle::settle;
-ghost use Rattle.store.specs.Store.{storeClose};
+ghost use mathlib.Core.Path.{_≡_};
+ghost use lib.ListN.{length};
+ghost use Rattle.layout.specs.Layout.{tablesSize, decode, Changed};
+ghost use Rattle.tables.specs.Tables.{rowAt};
+ghost use Rattle.apply.specs.Applied.{struckFrom};
+ghost use Rattle.store.specs.Store.{settled, storeClose};
 ghost use Rattle.call_contracts.specs.Performs.{Performs};
+
+// The open in a row, struck; then its file and stream, by the opens that remain.
+fn close_row(b: &mut [u8], row: usize, free: Open)
+    requires { ⌜ length (now b) ≡ tablesSize ⌝ }
+    ensures { λ _. ⌜ Changed (now (b .entry)) (now (b .exit))
+        (settled (struckFrom (decode (now (b .entry))) row free) (rowAt (decode (now (b .entry)) .opens) row)) ⌝ }
+{
+    let o = read_open(b, row);
+    strike_open(b, row, free);
+    settle(b, o);
+}
 
 pub fn close(b: &mut [u8], h: Handle) -> Answer
     ensures { λ x. ⌜ Performs x (now (b .entry)) (now (b .exit)) (λ t. storeClose t h) ⌝ }
@@ -26,8 +43,6 @@ pub fn close(b: &mut [u8], h: Handle) -> Answer
     let RowChange::At(row, free) = change else {
         return refused(Status::InvalidHandle);
     };
-    let o = read_open(b, row);
-    strike_open(b, row, free);
-    settle(b, o);
+    close_row(b, row, free);
     done()
 }

@@ -1,4 +1,5 @@
--- `calls::close` meets its contract: unsound bytes and an unknown handle are refused, and then the open is struck.
+-- `calls::close` meets its contract: unsound bytes and an unknown handle are refused, and then the row of the open is
+-- closed.
 use Rattle.base.{specs.Base.{_≡_, true}, proofs.Laws.{refl, sym, _∙_, arith, needs, not-true, not-false}}
 use Rattle.audit.specs.Sound.{soundBytes}
 use Rattle.call_contracts.proofs.{Performing.{performs-written, performs-refusal, performs-unsound, sound-stands, sound-long}, Answering.{closing, close-refuses, close-accepts}, Closed.{close-none, close-found, struck-is}}
@@ -45,7 +46,7 @@ returns-3 c =
     rw (c .done .ensures)
     (performs-written _ bs (λ i. omega (arith, c .before .before .before .before .before .before .before .before .before .before .before .before .before .slice-known .given i)) (sound-stands (closing (a .h)) bs s) _ _
     (λ i. omega (arith, c .before .slice-known2 .given i))
-    (rw (e, struck-is (decode bs) (a .h) _ found) (rw free at (c .before .before .before .strike-open .ensures))) (rw e))
+    (rw (e, struck-is (decode bs) (a .h) _ found) (rw free at (c .before .before .before .close-row .ensures))) (rw e))
 
 pub close-spec : {M : Type 1} → statement M
 close-spec =
