@@ -4,7 +4,7 @@ use Rattle.base.{specs.Base.{ℕ, _≡_, true, List, [], _∷_, _++_, Option, n
 use Rattle.call_contracts.{specs.Sequences.noCall, proofs.Sequences.{agree-related, every-sequence-of-calls}}
 use Rattle.layout.{specs.Layout.{decode, standsForTables}, proofs.Calls.on-tables}
 use Rattle.script_lines.specs.{Lines.parseLine, Print.printed, Script.{Answered, performed, answered, script}}
-use Rattle.store.{specs.{Model.Model, Calls.{Call, run, storeStep, modelStep}}, proofs.Sequences.{Steps.together, Views.Related}}
+use Rattle.store.{specs.{Model.Model, Calls.{Call, run, storeStep, modelStep}}, proofs.Sequences.{Steps.together, Related.Related}}
 use Rattle.script_answers.specs.{Answers.bytesStep, Scripts.{LinesAnswered, noLine, nextLine, EveryScript}}
 
 -- a line prints on bytes that stand for tables what it prints on the tables
