@@ -34,7 +34,7 @@ extern "C" {
 #endif
 
 /* Sizes. */
-#define ZAN_TABLES_SIZE 44042u /* bytes of the tables */
+#define ZAN_TABLES_SIZE 45322u /* bytes of the tables */
 #define ZAN_FILES 128u         /* files and directories, the root among them */
 #define ZAN_LINKS 192u
 #define ZAN_STREAMS 256u
@@ -46,9 +46,11 @@ extern "C" {
 #define ZAN_MASKS_SIZE (4u * ZAN_ACCOUNTS)           /* bytes of the masks that zan_format takes */
 #define ZAN_PATH_BUFFER (2u * (ZAN_PATH_UNITS + 1u)) /* bytes of a path of one unit more, which is refused as too long */
 
-/* Where the opens stand in the tables. */
-#define ZAN_OPENS_AT 38922u
-#define ZAN_OPEN_SIZE 20u
+/* Where streams and opens stand in the tables. */
+#define ZAN_STREAMS_AT 18186u
+#define ZAN_STREAM_SIZE 84u
+#define ZAN_OPENS_AT 39690u
+#define ZAN_OPEN_SIZE 22u
 
 /* Statuses. */
 #define ZAN_STATUS_SUCCESS 0x00000000u
@@ -60,6 +62,7 @@ extern "C" {
 #define ZAN_STATUS_OBJECT_NAME_COLLISION 0xC0000035u   /* it is there, and should have been made */
 #define ZAN_STATUS_OBJECT_PATH_NOT_FOUND 0xC000003Au   /* an earlier part of the path isn't there, or is no directory */
 #define ZAN_STATUS_SHARING_VIOLATION 0xC0000043u       /* it conflicts with an open on the same stream */
+#define ZAN_STATUS_DELETE_PENDING 0xC0000056u          /* it, or an earlier part of the path, is being deleted */
 #define ZAN_STATUS_DISK_FULL 0xC000007Fu               /* no slot for a new file, link or stream */
 #define ZAN_STATUS_INSUFFICIENT_RESOURCES 0xC000009Au  /* handles are used up */
 #define ZAN_STATUS_MEDIA_WRITE_PROTECTED 0xC00000A2u   /* the volume is read-only */
@@ -67,6 +70,7 @@ extern "C" {
 #define ZAN_STATUS_FILE_CORRUPT_ERROR 0xC0000102u      /* the tables contradict themselves, or have a wrong length */
 #define ZAN_STATUS_NOT_A_DIRECTORY 0xC0000103u         /* a directory was asked for */
 #define ZAN_STATUS_TOO_MANY_OPENED_FILES 0xC000011Fu   /* all opens are in use */
+#define ZAN_STATUS_CANNOT_DELETE 0xC0000121u           /* delete on close of the root or of what is read-only */
 
 /* Access bits. Some have one name for files and one for directories. */
 #define ZAN_FILE_READ_DATA 0x00000001u
@@ -137,11 +141,12 @@ extern "C" {
 #define ZAN_FILE_SEQUENTIAL_ONLY 0x00000004u           /* no effect; not with DIRECTORY_FILE */
 #define ZAN_FILE_NO_INTERMEDIATE_BUFFERING 0x00000008u /* no effect; not with DIRECTORY_FILE, nor access APPEND_DATA */
 #define ZAN_FILE_NON_DIRECTORY_FILE 0x00000040u        /* a file is asked for; not with DIRECTORY_FILE */
+#define ZAN_FILE_DELETE_ON_CLOSE 0x00001000u           /* its close deletes what it opened; only with access DELETE */
 #define ZAN_FILE_DISALLOW_EXCLUSIVE 0x00020000u        /* ACCESS_DENIED, where else the open of a directory would be made to
                                                           share reading; not with DIRECTORY_FILE */
 #define ZAN_OPTIONS_ACCEPTED                                                                                           \
     (ZAN_FILE_DIRECTORY_FILE | ZAN_FILE_WRITE_THROUGH | ZAN_FILE_SEQUENTIAL_ONLY | ZAN_FILE_NO_INTERMEDIATE_BUFFERING | \
-     ZAN_FILE_NON_DIRECTORY_FILE | ZAN_FILE_DISALLOW_EXCLUSIVE)
+     ZAN_FILE_NON_DIRECTORY_FILE | ZAN_FILE_DELETE_ON_CLOSE | ZAN_FILE_DISALLOW_EXCLUSIVE)
 
 /* Options that are refused (INVALID_PARAMETER), as is every other bit. A host takes out those that it sees to itself. */
 #define ZAN_FILE_SYNCHRONOUS_IO_ALERT 0x00000010u
@@ -149,7 +154,6 @@ extern "C" {
 #define ZAN_FILE_COMPLETE_IF_OPLOCKED 0x00000100u
 #define ZAN_FILE_NO_EA_KNOWLEDGE 0x00000200u
 #define ZAN_FILE_RANDOM_ACCESS 0x00000800u
-#define ZAN_FILE_DELETE_ON_CLOSE 0x00001000u
 #define ZAN_FILE_OPEN_BY_FILE_ID 0x00002000u
 #define ZAN_FILE_OPEN_FOR_BACKUP_INTENT 0x00004000u
 #define ZAN_FILE_NO_COMPRESSION 0x00008000u
@@ -206,7 +210,14 @@ uint32_t zan_open(uint8_t *tables, size_t tables_len, uint32_t account, uint32_t
                   uint32_t disposition, uint32_t options, uint32_t attributes, uint32_t fold, const uint8_t *path,
                   size_t path_len, uint32_t *action, uint32_t *granted, uint64_t *handle);
 
-/* Ends an open. Refuses a handle that no open has (INVALID_HANDLE), so also one that is closed already. */
+/*
+ * Ends an open. Refuses a handle that no open has (INVALID_HANDLE), so also one that is closed already.
+ * If the open was made with ZAN_FILE_DELETE_ON_CLOSE, its close marks what it was on for deletion: a named stream by
+ * itself, else the file with all its streams, but not a directory that has something in it. What is marked can't be
+ * opened or walked through any more (DELETE_PENDING). It goes when its last open closes, in the same call if this is
+ * that one: its records are cleared, its name is free, and its numbers may be given to others. A read-only volume
+ * doesn't stop this.
+ */
 uint32_t zan_close(uint8_t *tables, size_t tables_len, uint64_t handle);
 
 /* Makes the volume read-only (all but 0) or writable (0). Opens that are there stay as they are. */
@@ -317,6 +328,15 @@ static inline uint64_t zan_handle_in(const uint8_t *tables, uint32_t slot)
         handle = handle << 8 | tables[ZAN_OPENS_AT + slot * ZAN_OPEN_SIZE + i];
     }
     return handle;
+}
+
+/*
+ * 1 if there is a stream in a slot, 0 to ZAN_STREAMS - 1, or 0 if the slot is free. For a host that keeps contents by the
+ * stream's number: after a close, those of a slot that is free are to go.
+ */
+static inline uint32_t zan_stream_in(const uint8_t *tables, uint32_t slot)
+{
+    return tables[ZAN_STREAMS_AT + slot * ZAN_STREAM_SIZE] != 0;
 }
 
 #ifdef __cplusplus

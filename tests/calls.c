@@ -116,8 +116,9 @@ static uint64_t get(const uint8_t *bytes, size_t width)
 
 /* Places in the tables (docs/LAYOUT.md). */
 enum {
-    MARK_AT = 0, NEXT_AT = 2, FILES_AT = 10, LINKS_AT = 4874, STREAMS_AT = 17930, OPENS_AT = 38922,
-    FILE_BYTES = 38, STREAM_BYTES = 82, OPEN_BYTES = 20, COUNTS_IN = 68
+    MARK_AT = 0, NEXT_AT = 2, FILES_AT = 10, LINKS_AT = 5130, STREAMS_AT = 18186, OPENS_AT = 39690,
+    FILE_BYTES = 40, STREAM_BYTES = 84, OPEN_BYTES = 22, COUNTS_IN = 68,
+    FILE_PENDING_IN = 38, STREAM_PENDING_IN = 82, ON_CLOSE_IN = 20
 };
 
 /* The tables of one volume, and the bytes around them. */
@@ -321,21 +322,21 @@ static void bytes_with_a(uint8_t *bytes)
 {
     fresh_bytes(bytes);
     bytes[NEXT_AT] = 2;
-    bytes[48] = 1;
-    bytes[50] = 0x20;
-    memcpy(bytes + 54, full_masks, ZAN_MASKS_SIZE);
-    bytes[4876] = 1;
-    bytes[4878] = 'a';
-    bytes[18012] = 1;
-    bytes[18014] = 1;
-    bytes[18080] = 1;
-    bytes[18084] = 1;
-    bytes[18088] = 1;
-    bytes[38922] = 1;
-    bytes[38930] = 1;
-    bytes[38932] = 1;
-    bytes[38934] = 2;
-    bytes[38938] = 1;
+    bytes[50] = 1;
+    bytes[52] = 0x20;
+    memcpy(bytes + 56, full_masks, ZAN_MASKS_SIZE);
+    bytes[5132] = 1;
+    bytes[5134] = 'a';
+    bytes[18270] = 1;
+    bytes[18272] = 1;
+    bytes[18338] = 1;
+    bytes[18342] = 1;
+    bytes[18346] = 1;
+    bytes[39690] = 1;
+    bytes[39698] = 1;
+    bytes[39700] = 1;
+    bytes[39702] = 2;
+    bytes[39706] = 1;
 }
 
 static uint8_t expected[ZAN_TABLES_SIZE];
@@ -399,7 +400,7 @@ static void every_byte(void)
     HAS_BYTES(v);
     SAME(ZAN_STATUS_SUCCESS, CLOSE(v, 1));
     memset(expected + OPENS_AT, 0, OPEN_BYTES);
-    memset(expected + 18080, 0, 14);
+    memset(expected + 18338, 0, 14);
     HAS_BYTES(v);
     SAME(ZAN_STATUS_SUCCESS, SET_READ_ONLY(v, 0));
     expected[MARK_AT] = 0;
@@ -451,7 +452,7 @@ static void formats(void)
 /* Tables of a wrong length: all calls refuse them, and before they look at anything else. */
 static void wrong_lengths(void)
 {
-    static const size_t lengths[] = {0, 1, 2, 10, 38922, ZAN_TABLES_SIZE - 1, ZAN_TABLES_SIZE + 1, 2 * ZAN_TABLES_SIZE};
+    static const size_t lengths[] = {0, 1, 2, 10, OPENS_AT, ZAN_TABLES_SIZE - 1, ZAN_TABLES_SIZE + 1, 2 * ZAN_TABLES_SIZE};
     struct zan_request bad = request_of(0, 8, 6, 0xFFFFFFFFu);
     size_t i;
     for (i = 0; i < sizeof lengths / sizeof lengths[0]; i++) {
@@ -491,6 +492,14 @@ static void unsound(void)
         {STREAMS_AT + STREAM_BYTES + COUNTS_IN, 2},                /* counts that aren't true */
         {OPENS_AT + 16, 8}, {OPENS_AT, 0}, {OPENS_AT + 12, 0},     /* an open's sharing mode, handle, granted access */
         {ZAN_TABLES_SIZE - 1, 1},                                  /* a free slot that isn't zero */
+        {FILES_AT + FILE_PENDING_IN, 1},                           /* the root marked for deletion */
+        {FILES_AT + FILE_BYTES + FILE_PENDING_IN, 2},              /* the mark of `a`: 2, 256 */
+        {FILES_AT + FILE_BYTES + FILE_PENDING_IN + 1, 1},
+        {STREAMS_AT + STREAM_BYTES + STREAM_PENDING_IN, 1},        /* its unnamed stream marked: 1, 2, 256 */
+        {STREAMS_AT + STREAM_BYTES + STREAM_PENDING_IN, 2}, {STREAMS_AT + STREAM_BYTES + STREAM_PENDING_IN + 1, 1},
+        {OPENS_AT + ON_CLOSE_IN, 2}, {OPENS_AT + ON_CLOSE_IN + 1, 1},        /* delete on close of the open: 2, 256 */
+        {FILES_AT + 127 * FILE_BYTES + FILE_PENDING_IN, 1},        /* marks in free slots */
+        {STREAMS_AT + 255 * STREAM_BYTES + STREAM_PENDING_IN, 1}, {OPENS_AT + OPEN_BYTES + ON_CLOSE_IN, 1},
     };
     struct zan_request bad = request_of(0, 8, 6, 0xFFFFFFFFu);
     size_t i;
@@ -508,6 +517,180 @@ static void unsound(void)
         SAME(1, AUDIT(v));
         DONE(v);
     }
+}
+
+/* Marks of deletion that are 0 or 1 and contradict the other tables. */
+static void unsound_marks(void)
+{
+    const size_t root = FILES_AT, d = FILES_AT + FILE_BYTES, b = FILES_AT + 2 * FILE_BYTES;
+    struct volume v = fresh();
+
+    /* directory `d` with `d\\b:s`; opens on `d`, on `d\\b:s` and on the root, none of which is counted */
+    ACCEPTED(ZAN_FILE_CREATED, 1, 0x80, ASK(v, 0x80, 7, ZAN_FILE_CREATE, ZAN_FILE_DIRECTORY_FILE, "d"));
+    ACCEPTED(ZAN_FILE_CREATED, 2, 0x80, ASK(v, 0x80, 7, ZAN_FILE_CREATE, 0, "d\\b:s"));
+    ACCEPTED(ZAN_FILE_OPENED, 3, 0x80, ASK(v, 0x80, 7, ZAN_FILE_OPEN, 0, ""));
+    SAME(1, AUDIT(v));
+
+    v.tables.bytes[d + FILE_PENDING_IN] = 1; /* a directory with a child */
+    SAME(0, AUDIT(v));
+    REFUSED(ZAN_STATUS_FILE_CORRUPT_ERROR, ASK(v, 0x80, 7, ZAN_FILE_OPEN, 0, "d"));
+    v.tables.bytes[d + FILE_PENDING_IN] = 0;
+    v.tables.bytes[root + FILE_PENDING_IN] = 1; /* the root, which has an open */
+    SAME(0, AUDIT(v));
+    v.tables.bytes[root + FILE_PENDING_IN] = 0;
+    v.tables.bytes[OPENS_AT + 2 * OPEN_BYTES + ON_CLOSE_IN] = 1; /* delete on close of the root */
+    SAME(0, AUDIT(v));
+    SAME(ZAN_STATUS_FILE_CORRUPT_ERROR, CLOSE(v, 3));
+    v.tables.bytes[OPENS_AT + 2 * OPEN_BYTES + ON_CLOSE_IN] = 0;
+    v.tables.bytes[OPENS_AT + ON_CLOSE_IN] = 1; /* of `d` */
+    SAME(1, AUDIT(v));
+    v.tables.bytes[b + FILE_PENDING_IN] = 1; /* a file and a named stream, while they have an open */
+    SAME(1, AUDIT(v));
+    v.tables.bytes[STREAMS_AT + 3 * STREAM_BYTES + STREAM_PENDING_IN] = 1;
+    SAME(1, AUDIT(v));
+    memset(v.tables.bytes + OPENS_AT + OPEN_BYTES, 0, OPEN_BYTES); /* and when they have none */
+    SAME(0, AUDIT(v));
+    v.tables.bytes[b + FILE_PENDING_IN] = 0;
+    SAME(0, AUDIT(v));
+    v.tables.bytes[STREAMS_AT + 3 * STREAM_BYTES + STREAM_PENDING_IN] = 0;
+    SAME(1, AUDIT(v));
+    DONE(v);
+}
+
+/* A delete-on-close open that shares all, and an open for attributes, which is not counted. */
+#define SCRATCH(v, disposition, options, text)                                                                         \
+    ASK((v), ZAN_DELETE, 7, (disposition), (options) | ZAN_FILE_DELETE_ON_CLOSE, (text))
+#define LOOK(v, text) ASK((v), ZAN_FILE_READ_ATTRIBUTES, 0, ZAN_FILE_OPEN, 0, (text))
+
+/* Delete on close: the file goes with the close, every byte of it, and its name and numbers are free. */
+static void deletes_on_close(void)
+{
+    struct volume v = fresh();
+    REFUSED(ZAN_STATUS_INVALID_PARAMETER, ASK(v, 1, 7, ZAN_FILE_CREATE, ZAN_FILE_DELETE_ON_CLOSE, "a"));
+    REFUSED(ZAN_STATUS_INVALID_PARAMETER, ASK(v, ZAN_MAXIMUM_ALLOWED, 7, ZAN_FILE_CREATE, ZAN_FILE_DELETE_ON_CLOSE, "a"));
+    ACCEPTED(ZAN_FILE_CREATED, 1, ZAN_DELETE, SCRATCH(v, ZAN_FILE_CREATE, 0, "a"));
+    SAME(1, get(v.tables.bytes + OPENS_AT + ON_CLOSE_IN, 2));
+    SAME(0, get(v.tables.bytes + FILES_AT + FILE_BYTES + FILE_PENDING_IN, 2));
+    SAME(ZAN_STATUS_SUCCESS, CLOSE(v, 1));
+    fresh_bytes(expected);
+    expected[NEXT_AT] = 2;
+    HAS_BYTES(v);
+    SAME(ZAN_STATUS_INVALID_HANDLE, CLOSE(v, 1));
+    REFUSED(ZAN_STATUS_OBJECT_NAME_NOT_FOUND, LOOK(v, "a"));
+
+    ACCEPTED(ZAN_FILE_CREATED, 2, 2, ASK(v, 2, 1, ZAN_FILE_CREATE, 0, "a"));
+    bytes_with_a(expected);
+    put(expected + NEXT_AT, 8, 3);
+    put(expected + OPENS_AT, 8, 2);
+    HAS_BYTES(v);
+    SAME(ZAN_STATUS_SUCCESS, CLOSE(v, 2));
+
+    /* a file that was there, with its streams */
+    ACCEPTED(ZAN_FILE_CREATED, 3, 3, ASK(v, 1, 7, ZAN_FILE_CREATE, 0, "a:s"));
+    SAME(ZAN_STATUS_SUCCESS, CLOSE(v, 3));
+    SAME(1, zan_stream_in(v.tables.bytes, 1));
+    SAME(1, zan_stream_in(v.tables.bytes, 2));
+    ACCEPTED(ZAN_FILE_OPENED, 4, ZAN_DELETE, SCRATCH(v, ZAN_FILE_OPEN, 0, "a"));
+    SAME(ZAN_STATUS_SUCCESS, CLOSE(v, 4));
+    fresh_bytes(expected);
+    expected[NEXT_AT] = 5;
+    HAS_BYTES(v);
+    SAME(1, zan_stream_in(v.tables.bytes, 0));
+    SAME(0, zan_stream_in(v.tables.bytes, 1));
+    SAME(0, zan_stream_in(v.tables.bytes, 2));
+    DONE(v);
+}
+
+/* What is marked stays for those who have it open, and nobody else gets in. */
+static void pending(void)
+{
+    struct volume v = fresh();
+    ACCEPTED(ZAN_FILE_CREATED, 1, ZAN_DELETE, SCRATCH(v, ZAN_FILE_CREATE, 0, "a"));
+    ACCEPTED(ZAN_FILE_CREATED, 2, ZAN_DELETE, SCRATCH(v, ZAN_FILE_CREATE, ZAN_FILE_DIRECTORY_FILE, "d"));
+    ACCEPTED(ZAN_FILE_OPENED, 3, 0x80, LOOK(v, "a"));
+    ACCEPTED(ZAN_FILE_OPENED, 4, 0x80, LOOK(v, "d"));
+    ACCEPTED(ZAN_FILE_CREATED, 5, 3, ASK(v, 1, 7, ZAN_FILE_CREATE, 0, "a:s"));
+    SAME(ZAN_STATUS_SUCCESS, CLOSE(v, 1));
+    SAME(ZAN_STATUS_SUCCESS, CLOSE(v, 2));
+    SAME(1, get(v.tables.bytes + FILES_AT + FILE_BYTES + FILE_PENDING_IN, 2));
+    SAME(1, get(v.tables.bytes + FILES_AT + 2 * FILE_BYTES + FILE_PENDING_IN, 2));
+
+    REFUSED(ZAN_STATUS_DELETE_PENDING, LOOK(v, "a"));
+    REFUSED(ZAN_STATUS_DELETE_PENDING, LOOK(v, "a:s"));
+    REFUSED(ZAN_STATUS_DELETE_PENDING, LOOK(v, "a:t"));
+    REFUSED(ZAN_STATUS_DELETE_PENDING, LOOK(v, "a\\b"));
+    REFUSED(ZAN_STATUS_DELETE_PENDING, LOOK(v, "d"));
+    REFUSED(ZAN_STATUS_DELETE_PENDING, ASK(v, 1, 7, ZAN_FILE_CREATE, 0, "a"));
+    REFUSED(ZAN_STATUS_DELETE_PENDING, ASK(v, 1, 7, ZAN_FILE_CREATE, 0, "d\\b"));
+    REFUSED(ZAN_STATUS_DELETE_PENDING, ASK(v, 1, 7, ZAN_FILE_OPEN, ZAN_FILE_DIRECTORY_FILE, "a"));
+    REFUSED(ZAN_STATUS_DELETE_PENDING, ASK(v, 1, 7, ZAN_FILE_OPEN, ZAN_FILE_NON_DIRECTORY_FILE, "d"));
+
+    /* the last open of `a` is one that was not delete-on-close, on another stream; that of `d` isn't counted */
+    SAME(ZAN_STATUS_SUCCESS, CLOSE(v, 3));
+    REFUSED(ZAN_STATUS_DELETE_PENDING, LOOK(v, "a"));
+    SAME(ZAN_STATUS_SUCCESS, CLOSE(v, 5));
+    SAME(ZAN_STATUS_SUCCESS, CLOSE(v, 4));
+    fresh_bytes(expected);
+    expected[NEXT_AT] = 6;
+    HAS_BYTES(v);
+    ACCEPTED(ZAN_FILE_CREATED, 6, 1, ASK(v, 1, 7, ZAN_FILE_CREATE, ZAN_FILE_DIRECTORY_FILE, "a"));
+    DONE(v);
+}
+
+/* A named stream goes alone, a directory that has something in it stays. */
+static void deletes_parts(void)
+{
+    struct volume v = fresh();
+    ACCEPTED(ZAN_FILE_CREATED, 1, ZAN_DELETE, SCRATCH(v, ZAN_FILE_CREATE, 0, "a:s"));
+    ACCEPTED(ZAN_FILE_OPENED, 2, 0x80, LOOK(v, "a:s"));
+    SAME(ZAN_STATUS_SUCCESS, CLOSE(v, 1));
+    SAME(1, get(v.tables.bytes + STREAMS_AT + 2 * STREAM_BYTES + STREAM_PENDING_IN, 2));
+    REFUSED(ZAN_STATUS_DELETE_PENDING, LOOK(v, "a:s"));
+    REFUSED(ZAN_STATUS_DELETE_PENDING, ASK(v, 1, 7, ZAN_FILE_CREATE, 0, "a:s"));
+    ACCEPTED(ZAN_FILE_OPENED, 3, 0x80, LOOK(v, "a"));
+    SAME(ZAN_STATUS_SUCCESS, CLOSE(v, 2));
+    REFUSED(ZAN_STATUS_OBJECT_NAME_NOT_FOUND, LOOK(v, "a:s"));
+    SAME(1, zan_stream_in(v.tables.bytes, 1));
+    SAME(0, zan_stream_in(v.tables.bytes, 2));
+    SAME(ZAN_STATUS_SUCCESS, CLOSE(v, 3));
+    ACCEPTED(ZAN_FILE_OPENED, 4, 0x80, LOOK(v, "a"));
+
+    ACCEPTED(ZAN_FILE_CREATED, 5, ZAN_DELETE, SCRATCH(v, ZAN_FILE_CREATE, ZAN_FILE_DIRECTORY_FILE, "d"));
+    ACCEPTED(ZAN_FILE_CREATED, 6, ZAN_DELETE, SCRATCH(v, ZAN_FILE_CREATE, 0, "d\\b"));
+    SAME(ZAN_STATUS_SUCCESS, CLOSE(v, 5));
+    ACCEPTED(ZAN_FILE_OPENED, 7, ZAN_DELETE, SCRATCH(v, ZAN_FILE_OPEN, 0, "d"));
+    SAME(ZAN_STATUS_SUCCESS, CLOSE(v, 6));
+    SAME(ZAN_STATUS_SUCCESS, CLOSE(v, 7));
+    REFUSED(ZAN_STATUS_OBJECT_NAME_NOT_FOUND, LOOK(v, "d"));
+    DONE(v);
+}
+
+/* What delete on close may not be on, and that a read-only volume doesn't stop it. */
+static void deletes_refused(void)
+{
+    struct volume v = fresh();
+    struct zan_request r = request_of(ZAN_DELETE, 7, ZAN_FILE_CREATE, ZAN_FILE_DELETE_ON_CLOSE);
+    uint8_t path[ZAN_PATH_BUFFER];
+    size_t length = zan_ascii_path(path, "a");
+
+    REFUSED(ZAN_STATUS_CANNOT_DELETE, SCRATCH(v, ZAN_FILE_OPEN, 0, ""));
+    r.attributes = ZAN_FILE_ATTRIBUTE_READONLY;
+    REFUSED(ZAN_STATUS_CANNOT_DELETE, OPEN(v, r, path, length));
+    r.options = 0;
+    ACCEPTED(ZAN_FILE_CREATED, 1, ZAN_DELETE, OPEN(v, r, path, length));
+    REFUSED(ZAN_STATUS_CANNOT_DELETE, SCRATCH(v, ZAN_FILE_OPEN, 0, "a"));
+    SAME(ZAN_STATUS_SUCCESS, CLOSE(v, 1));
+
+    ACCEPTED(ZAN_FILE_CREATED, 2, 1, ASK(v, 1, 3, ZAN_FILE_CREATE, 0, "b"));
+    REFUSED(ZAN_STATUS_SHARING_VIOLATION, SCRATCH(v, ZAN_FILE_OPEN, 0, "b"));
+    SAME(ZAN_STATUS_SUCCESS, CLOSE(v, 2));
+    SAME(ZAN_STATUS_SUCCESS, SET_READ_ONLY(v, 1));
+    REFUSED(ZAN_STATUS_MEDIA_WRITE_PROTECTED, SCRATCH(v, ZAN_FILE_OPEN_IF, 0, "c"));
+    ACCEPTED(ZAN_FILE_OPENED, 3, ZAN_DELETE, SCRATCH(v, ZAN_FILE_OPEN, 0, "b"));
+    SAME(ZAN_STATUS_SUCCESS, CLOSE(v, 3));
+    REFUSED(ZAN_STATUS_OBJECT_NAME_NOT_FOUND, LOOK(v, "b"));
+    ACCEPTED(ZAN_FILE_OPENED, 4, 0x80, LOOK(v, "a"));
+    DONE(v);
 }
 
 /* Each number of a request arrives where it belongs. */
@@ -868,6 +1051,11 @@ int main(int argc, char **argv)
     formats();
     wrong_lengths();
     unsound();
+    unsound_marks();
+    deletes_on_close();
+    pending();
+    deletes_parts();
+    deletes_refused();
     request_numbers();
     folds();
     odd_paths();

@@ -108,6 +108,10 @@ static void some_open(void)
     request.share = below(8) != 0 ? 7 : below(9);
     request.disposition = below(6);
     request.options = below(8) != 0 ? 0 : below(0x80);
+    if (below(8) == 0) {
+        request.options |= ZAN_FILE_DELETE_ON_CLOSE;
+        request.access |= ZAN_DELETE;
+    }
     request.attributes = attributes[below(7)];
     request.fold = below(2);
     some_path();

@@ -3,14 +3,14 @@
 //   NAME: CHANGE; CHANGE;    answered by the name and what the audit says of the good tables with these changes
 //   + CHANGE; CHANGE;        not answered: it changes the good tables themselves, which begin as format makes them
 // A change is the letter of its table and words: a slot, then the record's fields. Words left out are zero.
-//   F SLOT KIND ATTRIBUTES MASK MASK MASK MASK MASK MASK MASK MASK
+//   F SLOT KIND ATTRIBUTES MASK MASK MASK MASK MASK MASK MASK MASK MARK
 //   L SLOT PARENT FILE =NAME
-//   S SLOT KIND FILE OPENS READERS WRITERS DELETERS READS WRITES DELETES =NAME     (reads, writes, deletes: those that share these)
-//   O SLOT HANDLE FILE STREAM GRANTED SHARE
+//   S SLOT KIND FILE OPENS READERS WRITERS DELETERS READS WRITES DELETES MARK =NAME     (reads, writes, deletes: those that share these)
+//   O SLOT HANDLE FILE STREAM GRANTED SHARE MARK         (deletes on close)
 //   N NUMBER                 the volume's next handle
 //   B PLACE BYTE             a byte of the tables, whatever it stands for
 //   T NUMBER                 no change: so many bytes are lent, if there are as many
-// Numbers are hexadecimal. A kind is 0 free, 1 data or 2 directory. In a name `_` is a unit 0 and `^` a unit 1F. A line
+// Numbers are hexadecimal. A kind is 0 free, 1 data or 2 directory; a mark is set unless it is 0. In a name `_` is a unit 0 and `^` a unit 1F. A line
 // without `:` or `+`, a letter of no table and a slot past the table's end are answered by `?`.
 //
 // The good volume: `sub`, a directory in the root (file 1); in it the data files `a` (2) and `A` (4) and a directory that
@@ -48,8 +48,8 @@ ghost use lib.ListN.{length};
 ghost use Rattle.layout.specs.Layout.{tablesSize};
 ghost use Rattle.audit_cases.specs.Places.{Place};
 
-// The slot and ten fields.
-const WORDS: usize = 11;
+// The slot and eleven fields.
+const WORDS: usize = 12;
 
 // What has been read of a change: its letter, its words, the one that is being read, and the units of a name, once it has begun.
 struct Change {
@@ -153,6 +153,7 @@ fn file_of(c: Change) -> File {
             words[9],
             words[10],
         ],
+        delete_pending: words[11] != 0,
     }
 }
 
@@ -182,6 +183,7 @@ fn stream_of(c: Change) -> Stream {
             shared_write: low(words[8]),
             shared_delete: low(words[9]),
         },
+        delete_pending: words[10] != 0,
     }
 }
 
@@ -193,6 +195,7 @@ fn open_of(c: Change) -> Open {
         stream: StreamNo(low(words[3])),
         granted: words[4],
         share: words[5],
+        delete_on_close: words[6] != 0,
     }
 }
 

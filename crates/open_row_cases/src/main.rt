@@ -48,6 +48,7 @@ fn put(b: &mut [u8], row: usize, handle: u64, stream: u16, granted: u32, share: 
             stream: StreamNo(stream),
             granted,
             share,
+            delete_on_close: false,
         },
     );
 }
@@ -137,19 +138,35 @@ fn changes(change: RowChange, n: usize, handle: u64) -> bool {
     }
 }
 
-fn row_changes(b: &[u8])
-    requires { ⌜ length (now b) ≡ tablesSize ⌝ }
-{
-    let o = Open {
+fn marks(change: RowChange) -> bool {
+    match change {
+        RowChange::At(_row, o) => o.delete_on_close,
+        RowChange::Unchanged => false,
+    }
+}
+
+fn new_open() -> Open {
+    Open {
         handle: Handle(30),
         file: FileNo(1),
         stream: StreamNo(3),
         granted: 1,
         share: 7,
-    };
+        delete_on_close: true,
+    }
+}
+
+fn row_changes(b: &[u8])
+    requires { ⌜ length (now b) ≡ tablesSize ⌝ }
+{
+    let o = new_open();
     answer(
         b"a row has the open stored there",
         changes(change_row(b, RowChoice::Numbered(5), o), 5, 30),
+    );
+    answer(
+        b"the open stored there deletes on close",
+        marks(change_row(b, RowChoice::Numbered(5), o)),
     );
     answer(
         b"past the end the open is answered",

@@ -1,7 +1,7 @@
 -- The lines of the step cases print on the model what the cases say, by evaluation of the definitions. By the law `every-script`
 -- the compiled calls print the same.
 use Rattle.base.{specs.Base._++_, proofs.Laws.refl}
-use Rattle.store.specs.StepCases.{Parameters.{parameterCases, outsideCases, accessBitCases}, Names.{pathCases, nameCases}, Lookups.{readOnlyCases, lookupCases, typeCases}, NewFiles.{newFileCases, parentCases}, Directories.{directoryCases, shareReadCases}, Streams.{foundCases, gainedCases, missingCases}, Rules.{accessCases, sharingCases}, Resources.{resourceCases, slotCases}, Calls.callCases}
+use Rattle.store.specs.StepCases.{Parameters.{parameterCases, outsideCases, accessBitCases}, Names.{pathCases, nameCases}, Lookups.{readOnlyCases, lookupCases, typeCases}, NewFiles.{newFileCases, parentCases}, Directories.{directoryCases, shareReadCases}, Streams.{foundCases, gainedCases, missingCases}, Rules.{accessCases, sharingCases}, Resources.{resourceCases, slotCases}, Calls.callCases, Deletes.{deleteOptionCases, cannotDeleteNewCases, cannotDeleteDirectoryCases, cannotDeleteStreamCases}, Pending.{pendingFileCases, pendingDirectoryCases, pendingStreamCases}, Removals.{markCases, childCases, removedFileCases, removedStreamCases}}
 use Rattle.step_vectors.specs.Vectors.{computes, Answered}
 
 pub parameters-answered : Answered (parameterCases ++ outsideCases ++ accessBitCases)
@@ -35,3 +35,15 @@ rules-answered = refl
 pub calls-answered : Answered (resourceCases ++ slotCases ++ callCases)
 unfolding computes
 calls-answered = refl
+
+pub deletes-answered : Answered (deleteOptionCases ++ cannotDeleteNewCases ++ cannotDeleteDirectoryCases ++ cannotDeleteStreamCases)
+unfolding computes
+deletes-answered = refl
+
+pub pending-answered : Answered (pendingFileCases ++ pendingDirectoryCases ++ pendingStreamCases)
+unfolding computes
+pending-answered = refl
+
+pub removals-answered : Answered (markCases ++ childCases ++ removedFileCases ++ removedStreamCases)
+unfolding computes
+removals-answered = refl

@@ -120,4 +120,7 @@ fn main() {
     run(&mut tables, &vectors::streams());
     run(&mut tables, &vectors::rules());
     run(&mut tables, &vectors::calls());
+    run(&mut tables, &vectors::deletes());
+    run(&mut tables, &vectors::pending());
+    run(&mut tables, &vectors::removals());
 }

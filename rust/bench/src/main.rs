@@ -1,6 +1,6 @@
-//! `bench [--quick] [--csv FILE]`: times of open, refused open, close and audit, of
-//! libzanthupra.a and of the twin in one run, as medians and ratios. With `--csv` also over
-//! volumes filled from 0 to 100 percent, for the plot.
+//! `bench [--quick] [--csv FILE]`: times of open, refused open, close, audit and a close that
+//! deletes, of libzanthupra.a and of the twin in one run, as medians and ratios. With `--csv`
+//! also over volumes filled from 0 to 100 percent, for the plot.
 
 mod measure;
 mod volume;

@@ -1,12 +1,15 @@
 //! Times of the calls of both, interleaved.
 
-use crate::volume::{Volume, ACCEPTED, REFUSED};
+use crate::volume::{Volume, ACCEPTED, REFUSED, SCRATCH};
 use std::hint::black_box;
 use std::time::{Duration, Instant};
 use zanthupra_ours as ours;
 use zanthupra_twin::{self as twin, constants::Status, OpenReply, OpenRequest};
 
-pub const CALLS: [&str; 4] = ["open", "refused open", "close", "audit"];
+pub const CALLS: [&str; 5] = ["open", "refused open", "close", "audit", "deleting close"];
+
+/// A figure for each of `CALLS`.
+type Figures<T> = [T; CALLS.len()];
 
 /// How often each call is made in a round, how many rounds a pass has, and how many passes
 /// are made over all volumes.
@@ -17,11 +20,11 @@ pub struct Effort {
     pub passes: usize,
 }
 
-/// Medians in microseconds of ours and of the twin, for each of `CALLS`.
+/// Medians in microseconds of ours and of the twin.
 #[derive(Clone, Copy)]
 pub struct Times {
-    pub ours: [f64; 4],
-    pub twin: [f64; 4],
+    pub ours: Figures<f64>,
+    pub twin: Figures<f64>,
 }
 
 /// The calls of one side.
@@ -38,14 +41,16 @@ const TWIN: Side = Side { open: twin::open, close: twin::close, audit: twin::aud
 /// A volume for each side, with the times measured on it so far.
 pub struct Measured {
     path: Vec<u8>,
+    scratch: Vec<u8>,
     tables: [Vec<u8>; 2],
-    samples: [[Vec<f64>; 4]; 2],
+    samples: [Figures<Vec<f64>>; 2],
 }
 
 impl Measured {
     pub fn new(volume: Volume) -> Self {
         Measured {
             path: volume.path,
+            scratch: volume.scratch,
             tables: [volume.tables.clone(), volume.tables],
             samples: Default::default(),
         }
@@ -62,7 +67,8 @@ impl Measured {
             for turn in 0..2 {
                 let side = (round + turn) % 2;
                 let calls = if side == 0 { &OURS } else { &TWIN };
-                let times = one_round(calls, &mut self.tables[side], &self.path, effort.repeats);
+                let paths = [&self.path[..], &self.scratch];
+                let times = one_round(calls, &mut self.tables[side], paths, effort.repeats);
                 // The first round warms up.
                 if round > 0 {
                     for (sample, time) in self.samples[side].iter_mut().zip(times) {
@@ -79,9 +85,15 @@ impl Measured {
     }
 }
 
-/// Mean times of one round in microseconds. Each accepted open is closed again.
-fn one_round(side: &Side, tables: &mut [u8], path: &[u8], repeats: u32) -> [f64; 4] {
-    let mut times = [Duration::ZERO; 4];
+/// Mean times of one round in microseconds, on the measured file and on the one that is made
+/// and deleted. Each accepted open is closed again.
+fn one_round(
+    side: &Side,
+    tables: &mut [u8],
+    [path, scratch]: [&[u8]; 2],
+    repeats: u32,
+) -> Figures<f64> {
+    let mut times = [Duration::ZERO; CALLS.len()];
     for _ in 0..repeats {
         let start = Instant::now();
         let reply = (side.open)(black_box(tables), black_box(&ACCEPTED), black_box(path));
@@ -102,6 +114,13 @@ fn one_round(side: &Side, tables: &mut [u8], path: &[u8], repeats: u32) -> [f64;
         let sound = (side.audit)(black_box(tables));
         times[3] += start.elapsed();
         assert!(sound);
+
+        let reply = (side.open)(tables, &SCRATCH, scratch);
+        assert_eq!(reply.status, Status::Success.code());
+        let start = Instant::now();
+        let status = (side.close)(black_box(tables), black_box(reply.handle));
+        times[4] += start.elapsed();
+        assert_eq!(status, Status::Success.code());
     }
     times.map(|time| time.as_secs_f64() * 1e6 / f64::from(repeats))
 }

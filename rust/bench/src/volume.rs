@@ -4,17 +4,24 @@ use zanthupra_twin::constants::*;
 use zanthupra_twin::layout::*;
 use zanthupra_twin::{audit, close, format, open, OpenRequest};
 
-/// Tables with the path that the measured opens name. One open is held on it that writes
-/// and shares reading.
+/// Tables with the path that the measured opens name, and one beside it for a file that is
+/// made and deleted. One open is held on the first that writes and shares reading.
 pub struct Volume {
     pub tables: Vec<u8>,
     pub path: Vec<u8>,
+    pub scratch: Vec<u8>,
 }
 
 /// The measured open: it reads, and shares reading and writing.
 pub const ACCEPTED: OpenRequest = request(FILE_READ_DATA, FILE_SHARE_READ | FILE_SHARE_WRITE);
 /// The same, but not shared with the writer: SHARING_VIOLATION.
 pub const REFUSED: OpenRequest = request(FILE_READ_DATA, FILE_SHARE_READ);
+/// The open that makes a file which its close, the measured one, deletes.
+pub const SCRATCH: OpenRequest = OpenRequest {
+    disposition: FILE_CREATE,
+    options: FILE_DELETE_ON_CLOSE,
+    ..request(DELETE, VALID_SHARES)
+};
 
 const fn request(access: u32, share: u32) -> OpenRequest {
     OpenRequest {
@@ -42,11 +49,11 @@ impl Volume {
     pub fn fresh() -> Self {
         let mut builder = Builder::new();
         builder.hold("a");
-        builder.finish("a")
+        builder.finish("a", "b")
     }
 
-    /// Files, streams and opens filled to so many percent; at 100 one slot is left for the
-    /// measured open. Links can't be: there is one for each file but the root.
+    /// Files, streams and opens filled to so many percent; at 100 one slot of each is left
+    /// for the measured opens. Links can't be: there is one for each file but the root.
     ///
     /// There are eight directories, nested up to four deep, as far as there is room; files
     /// lie in all of them in turn. Names have 4 to 32 units. Streams beyond one for each
@@ -55,8 +62,8 @@ impl Volume {
     /// is measured stands three directories deep and is the last one made.
     pub fn filled(percent: usize) -> Self {
         let mut builder = Builder::new();
-        let files = (FILES * percent / 100).max(5);
-        let streams = (STREAMS * percent / 100).max(files);
+        let files = (FILES * percent / 100).clamp(5, FILES - 1);
+        let streams = (STREAMS * percent / 100).clamp(files, STREAMS - 1);
         let opens = (OPENS * percent / 100).clamp(1, OPENS - 1);
 
         // The root and the measured file stand beside these.
@@ -91,7 +98,7 @@ impl Volume {
             builder.open(opened[number % opened.len()], &request(access, VALID_SHARES));
         }
         assert_eq!(used(&builder.tables), Used { files, links: files - 1, streams, opens });
-        builder.finish(TARGET)
+        builder.finish(TARGET, BESIDE_TARGET)
     }
 }
 
@@ -106,6 +113,7 @@ const DIRECTORIES: [&str; 8] = [
     "Players\\north hall",
 ];
 const TARGET: &str = "Recordings\\2026\\Week 46\\evening concert.flac";
+const BESIDE_TARGET: &str = "Recordings\\2026\\Week 46\\evening concert.tmp";
 
 /// Names of varied lengths, 32 units at most.
 fn name(start: &str, number: usize) -> String {
@@ -169,8 +177,8 @@ impl Builder {
         self.open(path, &writer);
     }
 
-    fn finish(self, path: &str) -> Volume {
+    fn finish(self, path: &str, scratch: &str) -> Volume {
         assert!(audit(&self.tables));
-        Volume { tables: self.tables, path: units(path) }
+        Volume { tables: self.tables, path: units(path), scratch: units(scratch) }
     }
 }

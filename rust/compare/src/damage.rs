@@ -55,23 +55,26 @@ pub fn damaged(rng: &mut Rng, tables: &[u8]) -> Vec<u8> {
 
 fn damage(rng: &mut Rng, tables: &mut Vec<u8>) {
     match rng.below(100) {
-        0..8 => flip_bit(rng, tables),
-        8..12 => random_record(rng, tables),
-        12..18 => new_record(rng, tables),
-        18..26 => copy_record(rng, tables),
-        26..36 => swap_records(rng, tables),
-        36..38 => rng.fill(tables),
-        38..42 => wrong_length(rng, tables),
-        42..50 => count_off_by_one(rng, tables),
-        50..56 => next_handle(rng, tables),
-        56..62 => kind_or_mark(rng, tables),
-        62..69 => number_field(rng, tables),
-        69..72 => other_parent(rng, tables),
-        72..80 => name_unit(rng, tables),
-        80..84 => copy_name(rng, tables),
-        84..88 => attributes_or_mask(rng, tables),
-        88..90 => copy_handle(rng, tables),
-        _ => change_open_with_counts(rng, tables),
+        0..6 => flip_bit(rng, tables),
+        6..9 => random_record(rng, tables),
+        9..15 => new_record(rng, tables),
+        15..21 => copy_record(rng, tables),
+        21..29 => swap_records(rng, tables),
+        29 => rng.fill(tables),
+        30..33 => wrong_length(rng, tables),
+        33..39 => count_off_by_one(rng, tables),
+        39..44 => next_handle(rng, tables),
+        44..49 => kind_or_mark(rng, tables),
+        49..55 => number_field(rng, tables),
+        55..60 => other_parent(rng, tables),
+        60..67 => name_unit(rng, tables),
+        67..70 => copy_name(rng, tables),
+        70..74 => attributes_or_mask(rng, tables),
+        74..76 => copy_handle(rng, tables),
+        76..83 => change_open_with_counts(rng, tables),
+        83..87 => end_open_with_counts(rng, tables),
+        87 => root_alone(rng, tables),
+        _ => delete_mark(rng, tables),
     }
 }
 
@@ -126,6 +129,7 @@ fn new_record(rng: &mut Rng, tables: &mut [u8]) {
             put(tables, at + 10, ((stream.start - STREAMS_AT) / STREAM_SIZE) as u16);
             put(tables, at + 12, rng.pick(&[0, 0x80, 0x80, 0x8, 0x1]));
             put(tables, at + 16, rng.pick(&[0, 7, 7, 8]));
+            put(tables, at + OPEN_MARK_IN, rng.pick(&[0, 0, 0, 1]));
         }
     }
 }
@@ -281,6 +285,53 @@ fn change_open_with_counts(rng: &mut Rng, tables: &mut [u8]) {
     let share: u32 = rng.pick(&[0, 1, 2, 3, 4, 5, 6, 7, 7, 7]);
     tables[open + 12..open + 16].copy_from_slice(&access.to_le_bytes());
     tables[open + 16..open + 20].copy_from_slice(&share.to_le_bytes());
+    count_again(tables);
+}
+
+/// An open that is gone, and all counts made true again: sound, unless a mark is left
+/// without an open.
+fn end_open_with_counts(rng: &mut Rng, tables: &mut [u8]) {
+    let open = OPEN.some(rng, tables);
+    tables[open].fill(0);
+    count_again(tables);
+}
+
+/// A mark of delete on close: of a file, a stream or an open, now and then of the root or
+/// what is on it, or in a free slot.
+fn delete_mark(rng: &mut Rng, tables: &mut [u8]) {
+    let (table, field, file) = rng.pick(&[
+        (FILE, FILE_MARK_IN, None),
+        (STREAM, STREAM_MARK_IN, Some(2)),
+        (OPEN, OPEN_MARK_IN, Some(8)),
+    ]);
+    let of_root = |number: &usize| {
+        file.map_or(*number == ROOT, |file| get(tables, table.record(*number).start + file) == 0)
+    };
+    let used = table.used(tables);
+    let roots: Vec<_> = used.iter().copied().filter(of_root).collect();
+    let record = match rng.below(10) {
+        0 if !roots.is_empty() => table.record(rng.pick(&roots)),
+        1 => table.record(rng.below(table.count)),
+        _ => table.some(rng, tables),
+    };
+    put(tables, record.start + field, rng.pick(&[1, 1, 1, 1, 1, 0, 0, 2, 3, 0x100, 0x101, 0xFFFF]));
+}
+
+/// The root alone, with an open on it that no count shows: sound, unless the root is marked
+/// or that open is delete-on-close.
+fn root_alone(rng: &mut Rng, tables: &mut [u8]) {
+    let next = u64::from_le_bytes(tables[2..10].try_into().expect("8 bytes"));
+    tables[FILE.record(1).start..].fill(0);
+    put(tables, FILE.record(ROOT).start + FILE_MARK_IN, rng.pick(&[0, 1, 1]));
+    put(tables, STREAM.record(0).start, 2);
+    let open = OPEN.record(0).start;
+    tables[open..open + 8].copy_from_slice(&next.wrapping_sub(1).to_le_bytes());
+    put(tables, open + 12, 0x80);
+    put(tables, open + OPEN_MARK_IN, rng.pick(&[0, 0, 1]));
+}
+
+/// Makes all counts true.
+fn count_again(tables: &mut [u8]) {
     for stream in 0..STREAMS {
         let counts = counts_of(tables, stream);
         for (number, count) in counts.into_iter().enumerate() {

@@ -4,11 +4,13 @@
 
 mod call;
 mod damage;
+mod deleted;
 mod mix;
 mod pair;
 mod rng;
 
 use call::{hex, status_name, Call, Reply, CALL_NAMES};
+use deleted::Deleted;
 use mix::{Handles, Mood, MOODS};
 use pair::{place, Pair};
 use rng::Rng;
@@ -16,7 +18,7 @@ use std::collections::BTreeMap;
 use std::env;
 use std::process::ExitCode;
 use zanthupra_twin::constants::Status;
-use zanthupra_twin::layout::TABLES_SIZE;
+use zanthupra_twin::layout::{Tables, TABLES_SIZE};
 
 const DEFAULT_CALLS: u64 = 100_000;
 const DEFAULT_SEED: u64 = 14;
@@ -33,6 +35,7 @@ struct Counts {
     calls: u64,
     by_call: [u64; CALL_NAMES.len()],
     by_status: BTreeMap<u32, u64>,
+    deleted: Deleted,
     damaged_sound: u64,
     damaged_unsound: u64,
 }
@@ -51,6 +54,7 @@ impl Counts {
             .into_iter()
             .filter(|status| !self.by_status.contains_key(&status.code()))
             .map(|status| format!("{status:?}"))
+            .chain(self.deleted.missing())
             .collect()
     }
 
@@ -62,9 +66,11 @@ impl Counts {
             .iter()
             .map(|(status, count)| format!("{} {count}", status_name(*status)));
         format!(
-            "compare: {} calls, seed {seed}, no difference; {}; damaged tables: {} sound, {} not; {}",
+            "compare: {} calls, seed {seed}, no difference; {}; delete on close: {}; \
+             damaged tables: {} sound, {} not; {}",
             self.calls,
             calls.collect::<Vec<_>>().join(", "),
+            self.deleted.summary(),
             self.damaged_sound,
             self.damaged_unsound,
             statuses.collect::<Vec<_>>().join(", "),
@@ -137,7 +143,7 @@ impl Comparison {
         Ok(reply)
     }
 
-    /// Keeps the handles, and forgets what was before a format.
+    /// Keeps the handles, counts what a close deleted, and forgets what was before a format.
     fn follow(&mut self, call: &Call, reply: &Reply) {
         match call {
             Call::Format { .. } => {
@@ -146,6 +152,7 @@ impl Comparison {
             }
             Call::Open { .. } => self.handles.live.push(reply.handle),
             Call::Close { handle } => {
+                self.counts.deleted.take(self.pair.before(), self.pair.tables());
                 self.handles.live.retain(|live| live != handle);
                 self.handles.stale.push(*handle);
             }
@@ -198,6 +205,8 @@ impl Comparison {
         }
         self.history.push(Event::Put(changes(self.pair.tables(), tables)));
         self.pair = Pair::new(tables);
+        let opens = Tables::new(tables).expect("sound tables").live_opens();
+        self.handles.live = opens.map(|open| open.handle()).collect();
     }
 
     fn print_history(&self) {
@@ -261,7 +270,7 @@ fn main() -> ExitCode {
     let missing = comparison.counts.missing();
     println!("{}", comparison.counts.summary(seed));
     if calls >= DEFAULT_CALLS && !missing.is_empty() {
-        eprintln!("compare: statuses never seen: {}", missing.join(", "));
+        eprintln!("compare: never seen: {}", missing.join(", "));
         return ExitCode::FAILURE;
     }
     ExitCode::SUCCESS

@@ -18,10 +18,13 @@ pub enum Mood {
     ManyStreams,
     /// As many of all of them.
     ManyOfAll,
+    /// Files and streams that come and go by delete on close.
+    Scratch,
 }
 
-pub const MOODS: [(usize, Mood); 5] = [
+pub const MOODS: [(usize, Mood); 6] = [
     (5, Mood::Mixed),
+    (5, Mood::Scratch),
     (2, Mood::ManyOpens),
     (2, Mood::ManyFiles),
     (2, Mood::ManyStreams),
@@ -97,6 +100,7 @@ pub fn call(rng: &mut Rng, mood: Mood, handles: &Handles) -> Call {
         Mood::Mixed => 20,
         Mood::ManyOpens | Mood::ManyOfAll => 2,
         Mood::ManyFiles | Mood::ManyStreams => 25,
+        Mood::Scratch => 24,
     };
     if rng.chance(closes) {
         return close(rng, handles);
@@ -106,13 +110,14 @@ pub fn call(rng: &mut Rng, mood: Mood, handles: &Handles) -> Call {
         1..3 => Call::SetReadOnly { mark: 0 },
         3 => Call::Audit,
         4..9 => directory_call(rng),
+        9..90 if mood == Mood::Scratch => scratch_call(rng),
         _ => Call::Open { request: request(rng, mood), path: path(rng, mood) },
     }
 }
 
 /// An open of a directory, such as meets the end of step 10.
 fn directory_call(rng: &mut Rng) -> Call {
-    let request = OpenRequest {
+    let mut request = OpenRequest {
         account: rng.below(8) as u32,
         access: rng.pick(&[0x80, 0x80, 0x1, 0x20, 0x2, MAXIMUM_ALLOWED]),
         share: rng.pick(&[0, 2, 4, 6, 6, 6, 7, 7]),
@@ -121,8 +126,64 @@ fn directory_call(rng: &mut Rng) -> Call {
         attributes: attributes(rng),
         fold: mark(rng, 50),
     };
+    if rng.chance(15) {
+        delete_on_close(rng, &mut request);
+    }
     let path = rng.pick(&["", "\\", "d", "d\\e", "D", "d\\e\\d"]);
     Call::Open { request, path: units(path) }
+}
+
+/// Few paths, with the option that makes what is missing there: files and streams, and
+/// directories with and without children.
+const SCRATCH: [(&str, u32); 18] = [
+    ("a", 0),
+    ("a", 0),
+    ("A", 0),
+    ("a:s", 0),
+    ("a:s", 0),
+    ("A:S", 0),
+    ("a:t", 0),
+    ("b:s", 0),
+    ("b", 0),
+    ("d", FILE_DIRECTORY_FILE),
+    ("d", FILE_DIRECTORY_FILE),
+    ("d\\a", 0),
+    ("d\\a:s", 0),
+    ("d\\e", FILE_DIRECTORY_FILE),
+    ("D\\E", FILE_DIRECTORY_FILE),
+    ("d\\e\\a", 0),
+    ("a\\x", 0),
+    ("d\\a\\x", 0),
+];
+
+/// An open that mostly shares all, so that others meet it, and that deletes half the time.
+fn scratch_call(rng: &mut Rng) -> Call {
+    let (path, kind) = rng.pick(&SCRATCH);
+    let mut request = OpenRequest {
+        account: if rng.chance(90) { 0 } else { account(rng) },
+        access: rng.pick(&[0x80, 0x80, 0x1, 0x2, DELETE, MAXIMUM_ALLOWED]),
+        share: if rng.chance(92) { 7 } else { share(rng) },
+        disposition: if rng.chance(70) {
+            rng.pick(&[FILE_OPEN, FILE_OPEN_IF, FILE_OPEN_IF, FILE_CREATE])
+        } else {
+            disposition(rng)
+        },
+        options: if rng.chance(85) { kind } else { options(rng) },
+        attributes: if rng.chance(85) { 0 } else { attributes(rng) },
+        fold: mark(rng, 40),
+    };
+    if rng.chance(50) {
+        delete_on_close(rng, &mut request);
+    }
+    Call::Open { request, path: units(path) }
+}
+
+/// Makes a request delete on close, mostly with the access that this needs.
+fn delete_on_close(rng: &mut Rng, request: &mut OpenRequest) {
+    request.options |= FILE_DELETE_ON_CLOSE;
+    if rng.chance(93) {
+        request.access |= DELETE;
+    }
 }
 
 fn close(rng: &mut Rng, handles: &Handles) -> Call {
@@ -139,11 +200,11 @@ fn close(rng: &mut Rng, handles: &Handles) -> Call {
 
 fn request(rng: &mut Rng, mood: Mood) -> OpenRequest {
     let filling = match mood {
-        Mood::Mixed => false,
+        Mood::Mixed | Mood::Scratch => false,
         Mood::ManyOpens | Mood::ManyOfAll => rng.chance(92),
         Mood::ManyFiles | Mood::ManyStreams => rng.chance(75),
     };
-    OpenRequest {
+    let mut request = OpenRequest {
         account: if filling { 0 } else { account(rng) },
         access: if filling { rng.pick(&[0x80, 0x1, 0x80, 0x3]) } else { access(rng) },
         share: if filling { 7 } else { share(rng) },
@@ -159,7 +220,11 @@ fn request(rng: &mut Rng, mood: Mood) -> OpenRequest {
         },
         attributes: attributes(rng),
         fold: if rng.chance(60) { 0 } else { mark(rng, 90) },
+    };
+    if rng.chance(if filling { 2 } else { 12 }) {
+        delete_on_close(rng, &mut request);
     }
+    request
 }
 
 fn account(rng: &mut Rng) -> u32 {
@@ -238,7 +303,7 @@ fn attributes(rng: &mut Rng) -> u32 {
         0..60 => 0,
         60 => 1 << rng.below(32),
         61..75 => rng.u32() & REQUEST_ATTRIBUTES,
-        _ => rng.pick(&[0x1, 0x2, 0x4, 0x6, 0x7, 0x20, 0x80, 0x100, 0x1000, 0x2000, 0x22]),
+        _ => rng.pick(&[0x1, 0x2, 0x4, 0x6, 0x7, 0x20, 0x80, 0x100, 0x101, 0x1000, 0x2000, 0x22]),
     }
 }
 

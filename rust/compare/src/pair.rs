@@ -49,6 +49,11 @@ impl Pair {
         self.twin.tables()
     }
 
+    /// The tables before the last call.
+    pub fn before(&self) -> &[u8] {
+        &self.before
+    }
+
     /// Makes the call through both. An error says what differs, or what changed though
     /// nothing may have.
     pub fn run(&mut self, call: &Call) -> Result<Reply, String> {

@@ -16,6 +16,14 @@ const DIRECTORY: u16 = Kind::Directory as u16;
 struct Files {
     used: FileSet,
     directories: FileSet,
+    marked: FileSet,
+}
+
+/// What the live opens are on, and the share counts that they come to.
+struct Held {
+    files: FileSet,
+    streams: [bool; STREAMS],
+    counts: [ShareCounts; STREAMS],
 }
 
 fn has(set: FileSet, file: usize) -> bool {
@@ -41,9 +49,10 @@ pub fn is_consistent(tables: &Tables) -> bool {
     check_links(tables, &files) && check_opens_and_streams(tables, &files)
 }
 
-/// Kinds, attributes and masks; free slots are zero; file 0 is a directory.
+/// Kinds, attributes, masks and marks; free slots are zero; file 0 is a directory and not
+/// marked.
 fn check_files(tables: &Tables) -> Option<Files> {
-    let mut files = Files { used: 0, directories: 0 };
+    let mut files = Files { used: 0, directories: 0, marked: 0 };
     for (number, file) in tables.files().enumerate() {
         let good = match file.kind() {
             0 => file.is_zero(),
@@ -58,16 +67,21 @@ fn check_files(tables: &Tables) -> Option<Files> {
             }
             _ => false,
         };
+        files.marked |= FileSet::from(file.delete_pending()) << number;
         let bits = masks(file.masks()).into_iter().fold(0, |sum, mask| sum | mask);
-        if !good || file.attributes() & !STORED_ATTRIBUTES != 0 || bits & !FILE_ALL_ACCESS != 0 {
+        if !good
+            || file.attributes() & !STORED_ATTRIBUTES != 0
+            || bits & !FILE_ALL_ACCESS != 0
+            || file.delete_pending() > 1
+        {
             return None;
         }
     }
-    has(files.directories, ROOT).then_some(files)
+    (has(files.directories, ROOT) && !has(files.marked, ROOT)).then_some(files)
 }
 
-/// Each file but the root has one link, from a directory that leads to the root; no two
-/// links of one directory have the same name.
+/// Each file but the root has one link, from a directory that leads to the root and isn't
+/// marked; no two links of one directory have the same name.
 fn check_links(tables: &Tables, files: &Files) -> bool {
     let mut seen = Seen::new();
     let mut linked: FileSet = 0;
@@ -80,7 +94,10 @@ fn check_links(tables: &Tables, files: &Files) -> bool {
             continue;
         }
         let (parent, file) = (link.parent(), link.file());
-        if !has(files.directories, parent) || !has(files.used, file) || !add(&mut linked, file) {
+        if !has(files.directories & !files.marked, parent)
+            || !has(files.used, file)
+            || !add(&mut linked, file)
+        {
             return false;
         }
         parents[file] = parent as u8;
@@ -116,16 +133,19 @@ fn all_reach_root(parents: &[u8; FILES], files: FileSet) -> bool {
     true
 }
 
-/// Opens are good, and counts and streams agree with them and with the files.
+/// Opens are good, and counts, marks and streams agree with them and with the files.
 fn check_opens_and_streams(tables: &Tables, files: &Files) -> bool {
-    let mut counts = [ShareCounts::default(); STREAMS];
-    check_opens(tables, &mut counts) && check_streams(tables, files, &counts)
+    let mut held =
+        Held { files: 0, streams: [false; STREAMS], counts: [ShareCounts::default(); STREAMS] };
+    check_opens(tables, &mut held)
+        && files.marked & !held.files == 0
+        && check_streams(tables, files, &held)
 }
 
 /// Each open names a used stream and its file, handles are distinct and below the next
-/// one, and no two opens on a stream conflict: none does with those before it. Counts the
-/// opens of each stream.
-fn check_opens(tables: &Tables, counts: &mut [ShareCounts; STREAMS]) -> bool {
+/// one, no two opens on a stream conflict (none does with those before it), and none on the
+/// root is delete-on-close. Notes what they are on, and counts the opens of each stream.
+fn check_opens(tables: &Tables, held: &mut Held) -> bool {
     let mut seen = Seen::new();
     let next_handle = tables.next_handle();
     for (number, open) in tables.opens().enumerate() {
@@ -142,14 +162,17 @@ fn check_opens(tables: &Tables, counts: &mut [ShareCounts; STREAMS]) -> bool {
             || granted & !FILE_ALL_ACCESS != 0
             || share > VALID_SHARES
             || open.stream() >= STREAMS
+            || open.delete_on_close() > u16::from(open.file() != ROOT)
         {
             return false;
         }
         let stream = tables.stream(open.stream());
-        if stream.kind() == 0 || stream.file() != open.file() {
+        if stream.kind() == 0 || stream.file() != open.file() || open.file() >= FILES {
             return false;
         }
-        let counts = &mut counts[open.stream()];
+        held.files |= 1 << open.file();
+        held.streams[open.stream()] = true;
+        let counts = &mut held.counts[open.stream()];
         if counts.conflicts(granted, share) {
             return false;
         }
@@ -163,8 +186,9 @@ fn check_opens(tables: &Tables, counts: &mut [ShareCounts; STREAMS]) -> bool {
 }
 
 /// Streams are of their files' kinds, counts are true, and each file has one stream with
-/// the empty name, a directory no other; no two streams of one file have the same name.
-fn check_streams(tables: &Tables, files: &Files, counts: &[ShareCounts; STREAMS]) -> bool {
+/// the empty name, a directory no other; no two streams of one file have the same name; one
+/// that is marked has a name and an open.
+fn check_streams(tables: &Tables, files: &Files, held: &Held) -> bool {
     let mut seen = Seen::new();
     let mut with_empty_name: FileSet = 0;
     for (number, stream) in tables.streams().enumerate() {
@@ -181,10 +205,14 @@ fn check_streams(tables: &Tables, files: &Files, counts: &[ShareCounts; STREAMS]
             DIRECTORY => has(files.directories, file),
             _ => false,
         };
-        if !right_file || stream.counts() != counts[number] {
+        let name = stored_units(stream.name());
+        let may_be_marked = !name.is_empty() && held.streams[number];
+        if !right_file
+            || stream.counts() != held.counts[number]
+            || stream.delete_pending() > u16::from(may_be_marked)
+        {
             return false;
         }
-        let name = stored_units(stream.name());
         let good_name = if name.is_empty() {
             add(&mut with_empty_name, file)
         } else {

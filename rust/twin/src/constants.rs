@@ -13,6 +13,7 @@ pub enum Status {
     ObjectNameCollision = 0xC000_0035,
     ObjectPathNotFound = 0xC000_003A,
     SharingViolation = 0xC000_0043,
+    DeletePending = 0xC000_0056,
     DiskFull = 0xC000_007F,
     InsufficientResources = 0xC000_009A,
     MediaWriteProtected = 0xC000_00A2,
@@ -20,11 +21,12 @@ pub enum Status {
     FileCorruptError = 0xC000_0102,
     NotADirectory = 0xC000_0103,
     TooManyOpenedFiles = 0xC000_011F,
+    CannotDelete = 0xC000_0121,
 }
 
 impl Status {
     /// Every status of the paper.
-    pub const ALL: [Status; 16] = [
+    pub const ALL: [Status; 18] = [
         Status::Success,
         Status::InvalidHandle,
         Status::InvalidParameter,
@@ -34,6 +36,7 @@ impl Status {
         Status::ObjectNameCollision,
         Status::ObjectPathNotFound,
         Status::SharingViolation,
+        Status::DeletePending,
         Status::DiskFull,
         Status::InsufficientResources,
         Status::MediaWriteProtected,
@@ -41,6 +44,7 @@ impl Status {
         Status::FileCorruptError,
         Status::NotADirectory,
         Status::TooManyOpenedFiles,
+        Status::CannotDelete,
     ];
 
     /// The number that a host sees.
@@ -76,8 +80,9 @@ pub const FILE_WRITE_THROUGH: u32 = 0x2;
 pub const FILE_SEQUENTIAL_ONLY: u32 = 0x4;
 pub const FILE_NO_INTERMEDIATE_BUFFERING: u32 = 0x8;
 pub const FILE_NON_DIRECTORY_FILE: u32 = 0x40;
+pub const FILE_DELETE_ON_CLOSE: u32 = 0x1000;
 pub const FILE_DISALLOW_EXCLUSIVE: u32 = 0x2_0000;
-pub const VALID_OPTIONS: u32 = 0x2_004F;
+pub const VALID_OPTIONS: u32 = 0x2_104F;
 
 // Access bits.
 pub const FILE_READ_DATA: u32 = 0x1;

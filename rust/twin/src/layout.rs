@@ -15,12 +15,17 @@ pub const PATH_UNITS: usize = 255;
 pub const ROOT: usize = 0;
 
 pub const VOLUME_SIZE: usize = 10;
-pub const FILE_SIZE: usize = 38;
+pub const FILE_SIZE: usize = 40;
 pub const LINK_SIZE: usize = 68;
-pub const STREAM_SIZE: usize = 82;
-pub const OPEN_SIZE: usize = 20;
+pub const STREAM_SIZE: usize = 84;
+pub const OPEN_SIZE: usize = 22;
 pub const MASKS_SIZE: usize = 4 * ACCOUNTS;
 pub const NAME_SIZE: usize = 2 * NAME_UNITS;
+
+/// Where the marks of delete on close stand: last in their records.
+pub const FILE_MARK_IN: usize = FILE_SIZE - 2;
+pub const STREAM_MARK_IN: usize = STREAM_SIZE - 2;
+pub const OPEN_MARK_IN: usize = OPEN_SIZE - 2;
 
 pub const FILES_AT: usize = VOLUME_SIZE;
 pub const LINKS_AT: usize = FILES_AT + FILES * FILE_SIZE;
@@ -88,6 +93,11 @@ impl<'a> File<'a> {
     pub fn mask(self, account: usize) -> u32 {
         masks(self.masks())[account]
     }
+    /// The mark in its bytes: 0 or 1 in tables that are sound.
+    #[inline(always)]
+    pub fn delete_pending(self) -> u16 {
+        u16_at(self.0, FILE_MARK_IN)
+    }
     pub fn is_zero(self) -> bool {
         all_zero(self.0)
     }
@@ -146,6 +156,16 @@ impl<'a> Stream<'a> {
     pub fn counts(self) -> ShareCounts {
         ShareCounts::from_bytes(field(self.0, 68))
     }
+    /// The mark in its bytes: 0 or 1 in tables that are sound.
+    #[inline(always)]
+    pub fn delete_pending(self) -> u16 {
+        u16_at(self.0, STREAM_MARK_IN)
+    }
+    /// Whether its name is empty.
+    #[inline(always)]
+    pub fn is_unnamed(self) -> bool {
+        u16_at(self.0, 4) == 0
+    }
     pub fn is_zero(self) -> bool {
         all_zero(self.0)
     }
@@ -176,6 +196,11 @@ impl Open<'_> {
     #[inline(always)]
     pub fn share(self) -> u32 {
         u32_at(self.0, 16)
+    }
+    /// The mark in its bytes: 0 or 1 in tables that are sound.
+    #[inline(always)]
+    pub fn delete_on_close(self) -> u16 {
+        u16_at(self.0, OPEN_MARK_IN)
     }
     pub fn is_zero(self) -> bool {
         all_zero(self.0)
@@ -241,6 +266,10 @@ impl<'a> Tables<'a> {
     }
     pub fn opens(&self) -> impl Iterator<Item = Open<'a>> {
         self.opens.iter().map(Open)
+    }
+    /// The opens that have a handle.
+    pub fn live_opens(&self) -> impl Iterator<Item = Open<'a>> {
+        self.opens().filter(|open| open.handle() != 0)
     }
     pub fn open(&self, number: usize) -> Open<'a> {
         Open(&self.opens[number])
@@ -308,6 +337,22 @@ impl<'a> TablesMut<'a> {
         self.put(at + 10, (open.stream as u16).to_le_bytes());
         self.put(at + 12, open.granted.to_le_bytes());
         self.put(at + 16, open.share.to_le_bytes());
+        self.put(at + OPEN_MARK_IN, u16::from(open.delete_on_close).to_le_bytes());
+    }
+    pub fn mark_file(&mut self, number: usize) {
+        self.put(FILES_AT + number * FILE_SIZE + FILE_MARK_IN, [1, 0]);
+    }
+    pub fn mark_stream(&mut self, number: usize) {
+        self.put(STREAMS_AT + number * STREAM_SIZE + STREAM_MARK_IN, [1, 0]);
+    }
+    pub fn clear_file(&mut self, number: usize) {
+        self.put(FILES_AT + number * FILE_SIZE, [0; FILE_SIZE]);
+    }
+    pub fn clear_link(&mut self, number: usize) {
+        self.put(LINKS_AT + number * LINK_SIZE, [0; LINK_SIZE]);
+    }
+    pub fn clear_stream(&mut self, number: usize) {
+        self.put(STREAMS_AT + number * STREAM_SIZE, [0; STREAM_SIZE]);
     }
     pub fn clear_open(&mut self, number: usize) {
         self.put(OPENS_AT + number * OPEN_SIZE, [0; OPEN_SIZE]);
@@ -321,6 +366,7 @@ pub struct OpenRecord {
     pub stream: usize,
     pub granted: u32,
     pub share: u32,
+    pub delete_on_close: bool,
 }
 
 #[cfg(test)]
@@ -331,7 +377,7 @@ mod tests {
     fn places_are_those_of_the_layout() {
         assert_eq!(
             [FILES_AT, LINKS_AT, STREAMS_AT, OPENS_AT, TABLES_SIZE],
-            [10, 4_874, 17_930, 38_922, 44_042]
+            [10, 5_130, 18_186, 39_690, 45_322]
         );
     }
 }

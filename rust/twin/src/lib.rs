@@ -11,6 +11,7 @@ pub mod constants;
 pub mod layout;
 mod names;
 mod path;
+mod removal;
 mod seen;
 mod sharing;
 mod steps;
@@ -80,7 +81,8 @@ pub fn open(tables: &mut [u8], request: &OpenRequest, path: &[u8]) -> OpenReply 
 fn try_open(tables: &mut [u8], request: &OpenRequest, path: &[u8]) -> Result<OpenReply, Status> {
     let mut tables = consistent(tables)?;
     let plan = steps::decide(&tables.view(), request, path)?;
-    let handle = store::store(&mut tables, &plan)?;
+    let delete_on_close = request.options & FILE_DELETE_ON_CLOSE != 0;
+    let handle = store::store(&mut tables, &plan, delete_on_close)?;
     Ok(OpenReply {
         status: Status::Success.code(),
         action: plan.action as u32,
@@ -89,7 +91,8 @@ fn try_open(tables: &mut [u8], request: &OpenRequest, path: &[u8]) -> Result<Ope
     })
 }
 
-/// Frees the open of that handle and takes it out of its stream's counts.
+/// Frees the open of that handle and takes it out of its stream's counts. Delete on close
+/// marks what it was on; what is marked goes with its last open.
 pub fn close(tables: &mut [u8], handle: u64) -> u32 {
     code(try_close(tables, handle))
 }
@@ -102,11 +105,16 @@ fn try_close(tables: &mut [u8], handle: u64) -> Result<(), Status> {
         .position(|open| handle != 0 && open.handle() == handle)
         .ok_or(Status::InvalidHandle)?;
     let open = view.open(slot);
-    let stream = open.stream();
+    let (file, stream) = (open.file(), open.stream());
+    let delete_on_close = open.delete_on_close() != 0;
     let mut counts = view.stream(stream).counts();
     counts.remove(open.granted(), open.share());
     tables.set_counts(stream, counts);
     tables.clear_open(slot);
+    if delete_on_close {
+        removal::mark(&mut tables, file, stream);
+    }
+    removal::remove_unopened(&mut tables, file, stream);
     Ok(())
 }
 

@@ -36,7 +36,7 @@ pub fn decide(tables: &Tables, request: &OpenRequest, path: &[u8]) -> Result<Pla
         return steps.open_found(ROOT, None);
     };
     let name = steps.name(last.file_name);
-    match find_link(tables, parent, &name) {
+    match steps.find_file(parent, &name)? {
         Some(file) => steps.open_found(file, Some(&last)),
         None => steps.create_file(parent, name, &last),
     }
@@ -56,6 +56,7 @@ fn check_parameters(request: &OpenRequest) -> Result<(), Status> {
         || request.attributes & !REQUEST_ATTRIBUTES != 0
         || access & GENERIC_ACCESS != 0
         || options & FILE_NO_INTERMEDIATE_BUFFERING != 0 && access & FILE_APPEND_DATA != 0
+        || options & FILE_DELETE_ON_CLOSE != 0 && access & DELETE == 0
         || directory && (options & not_for_directories != 0 || overwrites)
     {
         return Err(Status::InvalidParameter);
@@ -112,10 +113,20 @@ impl Steps<'_> {
     /// Step 6: the directory that holds the last component.
     fn look_up(&self, path: &Path) -> Result<usize, Status> {
         path.directories().try_fold(ROOT, |parent, component| {
-            find_link(self.tables, parent, &self.name(component))
+            self.find_file(parent, &self.name(component))?
                 .filter(|file| self.tables.file(*file).is_directory())
                 .ok_or(Status::ObjectPathNotFound)
         })
+    }
+
+    /// The file of that name in a directory. One that is marked, of whatever kind, is
+    /// refused as soon as it is found.
+    fn find_file(&self, parent: usize, name: &Name) -> Result<Option<usize>, Status> {
+        let found = find_link(self.tables, parent, name);
+        if found.is_some_and(|file| self.tables.file(file).delete_pending() != 0) {
+            return Err(Status::DeletePending);
+        }
+        Ok(found)
     }
 
     /// Steps 7 and 9: the last component is missing.
@@ -134,6 +145,9 @@ impl Steps<'_> {
         };
         if kind == Kind::Directory && request.attributes & FILE_ATTRIBUTE_TEMPORARY != 0 {
             return Err(Status::InvalidParameter);
+        }
+        if self.cannot_delete(request.attributes) {
+            return Err(Status::CannotDelete);
         }
         let parent_file = self.tables.file(parent);
         if parent_file.mask(self.account()) & needed == 0 {
@@ -210,7 +224,7 @@ impl Steps<'_> {
 
     /// Whether any open, counted or not, is on the file.
     fn is_open(&self, file: usize) -> bool {
-        self.tables.opens().any(|open| open.handle() != 0 && open.file() == file)
+        self.tables.live_opens().any(|open| open.file() == file)
     }
 
     /// Step 11.
@@ -218,6 +232,9 @@ impl Steps<'_> {
         let name = self.name(last.map_or(&[], |last| last.stream_name));
         match find_stream(self.tables, file, &name) {
             None => self.create_stream(file, name),
+            Some(stream) if self.tables.stream(stream).delete_pending() != 0 => {
+                Err(Status::DeletePending)
+            }
             Some(stream) => match self.request.disposition {
                 FILE_CREATE => Err(Status::ObjectNameCollision),
                 FILE_OPEN | FILE_OPEN_IF => {
@@ -290,8 +307,15 @@ impl Steps<'_> {
         })
     }
 
-    /// The access rule.
+    /// Whether a file with these attributes is to be deleted on close though it is read-only.
+    fn cannot_delete(&self, attributes: u32) -> bool {
+        self.has_option(FILE_DELETE_ON_CLOSE) && attributes & FILE_ATTRIBUTE_READONLY != 0
+    }
+
+    /// The access rule; right after it, what delete on close may not be on: the root or a
+    /// read-only file.
     fn grant(&self, file: usize, access: u32) -> Result<u32, Status> {
+        let is_root = file == ROOT;
         let file = self.tables.file(file);
         let mut effective = file.mask(self.account());
         if !file.is_directory() && file.attributes() & FILE_ATTRIBUTE_READONLY != 0 {
@@ -300,6 +324,10 @@ impl Steps<'_> {
         let need = access & !MAXIMUM_ALLOWED;
         if need & !effective != 0 || effective == 0 {
             return Err(Status::AccessDenied);
+        }
+        if is_root && self.has_option(FILE_DELETE_ON_CLOSE) || self.cannot_delete(file.attributes())
+        {
+            return Err(Status::CannotDelete);
         }
         Ok(if access & MAXIMUM_ALLOWED != 0 { effective } else { need })
     }

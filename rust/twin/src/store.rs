@@ -13,19 +13,20 @@ struct Slots {
 }
 
 /// Stores the open and what it adds. Answers the handle.
-pub fn store(tables: &mut TablesMut, plan: &Plan) -> Result<u64, Status> {
+pub fn store(tables: &mut TablesMut, plan: &Plan, delete_on_close: bool) -> Result<u64, Status> {
     let slots = find_slots(&tables.view(), &plan.target)?;
     let handle = tables.view().next_handle();
     if handle == u64::MAX {
         return Err(Status::InsufficientResources);
     }
     let (file, stream) = store_target(tables, &plan.target, &slots);
+    let &Plan { granted, share, .. } = plan;
     let mut counts = tables.view().stream(stream).counts();
-    counts.add(plan.granted, plan.share);
+    counts.add(granted, share);
     tables.set_counts(stream, counts);
     tables.set_open(
         slots.open,
-        &OpenRecord { handle, file, stream, granted: plan.granted, share: plan.share },
+        &OpenRecord { handle, file, stream, granted, share, delete_on_close },
     );
     tables.set_next_handle(handle + 1);
     Ok(handle)

@@ -169,6 +169,115 @@ fn open_records() {
     inconsistent(&[(open(0) + 16, &[1]), (stream(5) + 78, &[1])]);
 }
 
+/// The volume above with `h:t`, file 5, whose stream 7 is marked, and with `i`, file 6, and the
+/// directory `j`, file 7, which are marked. Opens 3 to 5 hold these; 6, on `k`, is
+/// delete-on-close.
+fn marked_volume() -> Volume {
+    let mut volume = volume();
+    volume.make("h:t");
+    volume.make("i");
+    volume.make_directory("j");
+    for path in ["h:t", "i", "j"] {
+        volume.accept(ask(0x80, 0, 1, 0), path, CreateAction::Opened);
+    }
+    for path in ["h:t", "i", "j"] {
+        let marks = ask(DELETE, 7, FILE_OPEN, FILE_DELETE_ON_CLOSE);
+        let handle = volume.accept(marks, path, CreateAction::Opened);
+        volume.end(handle);
+    }
+    volume.accept(ask(ALL, 7, FILE_OPEN_IF, FILE_DELETE_ON_CLOSE), "k", CreateAction::Created);
+    volume
+}
+
+const FILE_MARKS: [usize; 2] = [6, 7];
+const STREAM_MARK: usize = 7;
+const OPEN_MARK: usize = 6;
+
+fn file_mark(number: usize) -> usize {
+    file(number) + FILE_MARK_IN
+}
+fn stream_mark(number: usize) -> usize {
+    stream(number) + STREAM_MARK_IN
+}
+fn open_mark(number: usize) -> usize {
+    open(number) + OPEN_MARK_IN
+}
+
+/// The verdict on the marked volume with these bytes put in.
+fn sound_with(changes: &[(usize, &[u8])]) -> bool {
+    let mut tables = marked_volume().0;
+    for (at, bytes) in changes {
+        assert_ne!(tables[*at..at + bytes.len()], **bytes, "no change");
+        tables[*at..at + bytes.len()].copy_from_slice(bytes);
+    }
+    audit(&tables)
+}
+
+#[test]
+fn marks_are_0_or_1() {
+    assert!(sound_with(&[]));
+    let marks = FILE_MARKS.map(file_mark).into_iter();
+    for at in marks.chain([stream_mark(STREAM_MARK), open_mark(OPEN_MARK)]) {
+        for mark in [[2, 0], [3, 0], [0xFF, 0], [0, 1], [1, 1], [0, 0x80]] {
+            assert!(!sound_with(&[(at, &mark)]), "{mark:?} at {at}");
+        }
+        assert!(sound_with(&[(at, &[0, 0])]), "no mark at {at}");
+    }
+    // Where there is none.
+    for at in [file_mark(4), stream_mark(4), open_mark(3)] {
+        for mark in [[2, 0], [0, 1]] {
+            assert!(!sound_with(&[(at, &mark)]), "{mark:?} at {at}");
+        }
+    }
+}
+
+#[test]
+fn a_marked_file_has_an_open() {
+    assert!(!sound_with(&[(file_mark(3), &[1])])); // no open on it
+    assert!(!sound_with(&[(file_mark(9), &[1])])); // a free slot
+    assert!(sound_with(&[(file_mark(4), &[1])])); // `g` has opens
+    assert!(sound_with(&[(file_mark(5), &[1])])); // an open on a named stream
+                                                  // The open that held it is gone, or is on another file.
+    assert!(!sound_with(&[(open(4), &[0; OPEN_SIZE])]));
+    assert!(!sound_with(&[(open(4) + 8, &[4]), (open(4) + 10, &[5])]));
+}
+
+#[test]
+fn a_marked_stream_has_a_name_and_an_open() {
+    assert!(!sound_with(&[(stream_mark(4), &[1])])); // `d\e\f:s`: no open
+    assert!(!sound_with(&[(stream_mark(5), &[1])])); // that of `g`: opens, and no name
+    assert!(!sound_with(&[(stream_mark(1), &[1])])); // that of `d`: the same
+    assert!(!sound_with(&[(stream_mark(0), &[1])]));
+    assert!(!sound_with(&[(stream_mark(100), &[1])])); // a free slot
+                                                       // An open on the file's other stream is none of its own.
+    assert!(!sound_with(&[(open(3) + 10, &[6])]));
+    assert!(sound_with(&[(open(3) + 10, &[6]), (stream_mark(STREAM_MARK), &[0])]));
+}
+
+#[test]
+fn the_root_is_neither_marked_nor_held_to_be_deleted() {
+    let mut volume = marked_volume();
+    volume.accept(ask(0x80, 0, 1, 0), "", CreateAction::Opened);
+    let root_open = 7;
+    for at in [file_mark(0), stream_mark(0), open_mark(root_open)] {
+        volume.0[at] = 1;
+        assert!(!audit(&volume.0), "at {at}");
+        volume.0[at] = 0;
+    }
+    assert!(audit(&volume.0));
+    // On any other file the same open may be.
+    assert!(sound_with(&[(open_mark(3), &[1])]));
+    assert!(sound_with(&[(open_mark(2), &[1])])); // a directory with a child
+}
+
+#[test]
+fn a_marked_directory_has_no_children() {
+    assert!(!sound_with(&[(file_mark(1), &[1])])); // `d`, which is open
+    assert!(!sound_with(&[(link(3), &[7])])); // `g` moved into `j`
+    assert!(sound_with(&[(link(3), &[7]), (file_mark(7), &[0])]));
+    assert!(!sound_with(&[(link(5), &[7])])); // a marked child is a child
+}
+
 #[test]
 fn handles_may_have_any_number() {
     let mut volume = Volume::fresh();

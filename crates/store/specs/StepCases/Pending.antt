@@ -12,16 +12,20 @@ writing = 0 ∷ 2 ∷ 4 ∷ 5 ∷ []
 abbrev pub reading : List ℕ
 reading = 1 ∷ 3 ∷ []
 
--- account 0 has every access, the others none; the first open stays, the second deletes on close and is closed
+-- the first open stays, the second deletes on close and is closed
 abbrev pub marked : Call → String → List Call → Start
-marked first path calls = from (0x1F01FF ∷ replicate 7 0) (first ∷ deletes path ∷ close 2 ∷ calls)
+marked first path calls = after (first ∷ deletes path ∷ close 2 ∷ calls)
+
+-- the same where account 0 has every access, and the others none
+abbrev pub denied : Start → Start
+denied s = from (0x1F01FF ∷ replicate 7 0) (s .calls)
 
 -- a data file
 abbrev pub pendingFileCases : List Case
 pendingFileCases =
     -- the last component, with a stream name or without: each disposition, before COLLISION, NOT_FOUND and the access rule
     each dispositions (λ d. refuses file (ask 1 7 d 0 "a") DELETE_PENDING)
-    ++ each dispositions (λ d. refuses file (by 1 (ask 1 7 d 0 "a")) DELETE_PENDING)
+    ++ each dispositions (λ d. refuses (denied file) (by 1 (ask 1 7 d 0 "a")) DELETE_PENDING)
     ++ each dispositions (λ d. refuses file (ask 1 7 d 0 "a:t") DELETE_PENDING)
     ++ each dispositions (λ d. refuses (marked (makes "a:s") "a" []) (ask 1 7 d 0 "a:s") DELETE_PENDING)
     -- before step 8
@@ -73,7 +77,7 @@ abbrev pub pendingDirectoryCases : List Case
 pendingDirectoryCases =
     -- the last component: each disposition, before COLLISION, the access rule and step 8
     each dispositions (λ d. refuses directory (ask 1 7 d 0 "d") DELETE_PENDING)
-    ++ each dispositions (λ d. refuses directory (by 1 (ask 1 7 d 0 "d")) DELETE_PENDING)
+    ++ each dispositions (λ d. refuses (denied directory) (by 1 (ask 1 7 d 0 "d")) DELETE_PENDING)
     ++ each dispositions (λ d. refuses directory (ask 1 7 d 0x40 "d") DELETE_PENDING)
     ++ each dispositions (λ d. refuses directory (ask 1 7 d 0 "d:s") DELETE_PENDING)
     -- before it: nothing is made in it, and nothing missed
@@ -114,7 +118,7 @@ abbrev pub pendingStreamCases : List Case
 pendingStreamCases =
     -- each disposition, before COLLISION and the access rule
     each dispositions (λ d. refuses named (ask 1 7 d 0 "a:s") DELETE_PENDING)
-    ++ each dispositions (λ d. refuses named (by 1 (ask 1 7 d 0 "a:s")) DELETE_PENDING)
+    ++ each dispositions (λ d. refuses (denied named) (by 1 (ask 1 7 d 0 "a:s")) DELETE_PENDING)
     ++ refuses named (deletes "a:s:$DATA") DELETE_PENDING
     -- after step 5
     ∷ refuses (marked (makes "a:s") "a:s" (marks ∷ [])) (ask 1 7 2 0 "a:s") MEDIA_WRITE_PROTECTED

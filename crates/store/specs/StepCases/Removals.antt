@@ -84,6 +84,7 @@ abbrev pub removedFileCases : List Case
 removedFileCases =
     -- marked and removed by the same close: made or found, a file, a directory, superseded, on a read-only volume
     empties (makesDeleting "a" ∷ []) 1
+    ∷ empties (makesDeleting "a::$DATA" ∷ []) 1
     ∷ empties (makes "a" ∷ close 1 ∷ deletes "a" ∷ []) 2
     ∷ empties (makesDirectoryDeleting "d" ∷ []) 1
     ∷ empties (makes "a" ∷ close 1 ∷ attributed 0x1 (ask 0x10000 7 0 0x1000 "a") ∷ []) 2
@@ -106,7 +107,8 @@ removedFileCases =
     ∷ does (after (makes "a:s" ∷ makesToo "a" ∷ deletes "a" ∷ close 3 ∷ [])) (close 1) false (pending (made 0 "a" 0x20) ∷ [])
     (stream 1 "" ∷ stream 1 "s" ∷ [])
     (entry 2 1 1 0x80 7 ∷ [])
-    -- a marked stream goes with its file
+    -- a stream that is marked, or would be, goes with its file
+    ∷ empties (makes "a" ∷ makesDeleting "a:s" ∷ deletes "a" ∷ close 3 ∷ close 1 ∷ []) 2
     ∷ empties (makes "a:s" ∷ deletes "a:s" ∷ close 2 ∷ deletes "a" ∷ close 3 ∷ []) 1
     -- the records of that file alone, between others
     ∷ does (after three) (close 4) false (made 0 "b" 0x20 ∷ gone ∷ made 0 "c" 0x20 ∷ [])

@@ -326,10 +326,11 @@ runCases =
     ∷ (stream 3 "", 1 ∷ 1 ∷ 0 ∷ 0 ∷ 1 ∷ 1 ∷ 1 ∷ [])
     ∷ [])
     ((0, deleting (entry 6 1 2 0x10002 5)) ∷ (3, entry 5 3 4 1 7) ∷ [])
-    -- a marked stream, then its file marked too; a stream removed of a file that stays, its slot taken again
+    -- a marked stream with an uncounted open, then its file marked too; a stream removed of a file that stays, its slot
+    -- taken again
     ∷ runs
     (ask 0x10000 7 2 0x1000 "a:s"
-    ∷ ask 0x20 7 1 0 "a:s"
+    ∷ ask 0x80 0 1 0 "a:s"
     ∷ ask 0x80 7 3 0 "a:t"
     ∷ close 1
     ∷ folding (ask 1 7 1 0 "A:S")
@@ -341,7 +342,7 @@ runCases =
     ∷ ask 4 7 2 0 "b"
     ∷ [])
     (acceptedRow FILE_CREATED 1 0x10000
-    ∷ acceptedRow FILE_OPENED 2 0x20
+    ∷ acceptedRow FILE_OPENED 2 0x80
     ∷ acceptedRow FILE_CREATED 3 0x82
     ∷ doneRow
     ∷ refusedRow DELETE_PENDING
@@ -357,10 +358,10 @@ runCases =
     (pending (made 0 "a" 0x20) ∷ made 0 "b" 0x20 ∷ [])
     ((ofDirectory 0, replicate 7 0)
     ∷ (stream 1 "", replicate 7 0)
-    ∷ (pendingStream (stream 1 "s"), 1 ∷ 1 ∷ 0 ∷ 0 ∷ 1 ∷ 1 ∷ 1 ∷ [])
+    ∷ (pendingStream (stream 1 "s"), replicate 7 0)
     ∷ (stream 2 "", 1 ∷ 0 ∷ 1 ∷ 0 ∷ 1 ∷ 1 ∷ 1 ∷ [])
     ∷ [])
-    ((0, entry 6 2 3 4 7) ∷ (1, entry 2 1 2 0x20 7) ∷ [])
+    ((0, entry 6 2 3 4 7) ∷ (1, entry 2 1 2 0x80 0) ∷ [])
     -- the opens' room
     ∷ room 255 true
     ∷ room 256 false

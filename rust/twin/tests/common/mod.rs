@@ -86,8 +86,18 @@ impl Volume {
     pub fn close(&mut self, handle: u64) -> u32 {
         let before = self.0.clone();
         let status = close(&mut self.0, handle);
-        assert!(status == 0 || self.0 == before);
+        if status == 0 {
+            assert!(audit(&self.0), "unsound after close of {handle}");
+        } else {
+            assert!(self.0 == before, "refused, yet changed: close of {handle}");
+        }
         status
+    }
+
+    /// Closes a handle that is live.
+    #[track_caller]
+    pub fn end(&mut self, handle: u64) {
+        assert_eq!(self.close(handle), 0);
     }
 
     pub fn read_only(&mut self, mark: u32) {
@@ -110,6 +120,21 @@ impl Volume {
     pub fn share(&self, open: usize) -> u32 {
         let at = OPENS_AT + OPEN_SIZE * open + 16;
         u32::from_le_bytes(self.0[at..at + 4].try_into().unwrap())
+    }
+
+    /// The mark of a file, 0 or 1.
+    pub fn file_mark(&self, file: usize) -> u16 {
+        self.u16(FILES_AT + FILE_SIZE * file + FILE_MARK_IN)
+    }
+
+    /// The mark of a stream, 0 or 1.
+    pub fn stream_mark(&self, stream: usize) -> u16 {
+        self.u16(STREAMS_AT + STREAM_SIZE * stream + STREAM_MARK_IN)
+    }
+
+    /// Whether an open is delete-on-close, 0 or 1.
+    pub fn open_mark(&self, open: usize) -> u16 {
+        self.u16(OPENS_AT + OPEN_SIZE * open + OPEN_MARK_IN)
     }
 
     pub fn set_next_handle(&mut self, next: u64) {
