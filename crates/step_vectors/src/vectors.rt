@@ -19,7 +19,7 @@ ghost use Rattle.store.specs.StepCases.Removals.{markCases, childCases, removed
 ghost use Rattle.step_vectors.specs.Vectors.{vectors};
 
 // Steps 1, 2 and 3: the request's numbers.
-pub fn parameters() -> [u8; 4298]
+pub fn parameters() -> [u8; 4262]
     ensures { λ r. ⌜ r ≡ vectors (parameterCases ++ outsideCases ++ accessBitCases) ⌝ }
 {
     *b"=
@@ -123,9 +123,6 @@ O 0 1 7 1 1024 0 0
 >C000000D - 0
 =
 O 0 1 7 1 2048 0 0 
->C000000D - 0
-=
-O 0 1 7 1 4096 0 0 
 >C000000D - 0
 =
 O 0 1 7 1 8192 0 0 
