@@ -153,16 +153,15 @@ fn chosen_row(rows: [Open; OPEN_SLOTS], c: RowChoice) -> OpenSlot
     }
 }
 
-// The table is read into a row once; the row chosen is found in it, and the open stored there. What goes back to the bytes
-// is the answer.
+// The row chosen is found in the row that the table is read into, and the open stored there. What goes back to the bytes is
+// the answer. The table is read anew for the store, so that no copy of the row is kept from the one to the other.
 pub fn change_row(b: &[u8], c: RowChoice, o: Open) -> RowChange
     requires { ⌜ length (now b) ≡ tablesSize ⌝ }
     ensures { λ r. ⌜ (changedRow r ≡ chosenRow c (decode (now (b .entry)) .opens .rows)) × (openHeld r o ≡ o) ⌝ }
 {
-    let rows = read_opens(b);
-    let slot = chosen_row(rows, c);
+    let slot = chosen_row(read_opens(b), c);
     let OpenSlot::At(row) = slot else {
         return RowChange::Unchanged;
     };
-    RowChange::At(row, stored_in(rows, row, o))
+    RowChange::At(row, stored_in(read_opens(b), row, o))
 }

@@ -14,7 +14,7 @@ returns c =
 returns-2 : tie.Need-returns-2
 unfolding rowSlot changedRow openHeld
 returns-2 c =
-    let w = c .before .before in
+    let w = c .before .before .before in
     let row = w .before .before in
     (rw (row .before .read-opens .ensures, w .slot .given .1) at (row .chosen-row .ensures), rw held at (c .stored-in .ensures))
 
@@ -27,5 +27,6 @@ change-row-spec =
     (λ c. search needs)
     (λ c. search needs)
     returns
+    (λ c κs. search needs)
     (λ c κs. search needs)
     returns-2)
