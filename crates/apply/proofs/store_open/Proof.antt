@@ -2,11 +2,11 @@
 -- number, and it has the open.
 use Rattle.base.{specs.Base.{bare, withCounts, Tables}, proofs.Laws.{needs, none≢some, Option·some-injective}}
 use Rattle.layout.specs.Puts.{putOpen, putNext}
+use Rattle.layout.proofs.Changes.{changed-then}
 use Rattle.open_rows.specs.Change.{chosenRow, changedRow, openHeld}
 use Rattle.store.specs.Store.{recount}
 use Rattle.tables.specs.Tables.{streamAt}
 use Rattle.apply.specs.Applied.{raised, openStored}
-use Rattle.apply.proofs.Chains.{changed-then}
 use Rattle.apply.proofs.store_open.Statement.{statement}
 use Rattle.apply.proofs.store_open.Tie as tie
 

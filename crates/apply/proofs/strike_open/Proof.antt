@@ -1,10 +1,10 @@
 -- `apply::strike_open` meets its contract: the counts, then the row.
 use Rattle.base.{specs.Base.{bare, withCounts, Tables}, proofs.Laws.needs}
 use Rattle.layout.specs.Puts.{putOpen}
+use Rattle.layout.proofs.Changes.{changed-then}
 use Rattle.store.specs.Store.{recount}
 use Rattle.tables.specs.Tables.{streamAt}
 use Rattle.apply.specs.Applied.{struckFrom}
-use Rattle.apply.proofs.Chains.{changed-then}
 use Rattle.apply.proofs.strike_open.Statement.{statement}
 use Rattle.apply.proofs.strike_open.Tie as tie
 

@@ -1,8 +1,9 @@
 -- `apply::write_placed` meets its contract: it goes by what was placed; where nothing is, nothing changes.
 use Rattle.base.{specs.Base.{writes, namespace}, proofs.Laws.needs}
+use Rattle.layout.proofs.Changes.{unchanged}
 use Rattle.store.specs.{Complete.attributeChange, Store.{writeStreams, changedVolume}}
 use Rattle.open_steps.specs.{Pendings.asAttributes, Decisions.asPlaced}
-use Rattle.apply.proofs.Chains.{always, if-room, unchanged}
+use Rattle.apply.proofs.Chains.{always, if-room}
 use Rattle.apply.proofs.write_placed.Statement.{statement}
 use Rattle.apply.proofs.write_placed.Tie as tie
 

@@ -21,8 +21,8 @@ unfolding removesFile namespace storeView
 returns-2 c =
     let mark = c .before .before in
     let marked =
-        ⊎-elim (λ w. or-right (mark .read-file-mark .result) (sym (w .1 .ensures) ∙ not-false (w .1 .result) (w .2 .left)))
-        (λ w. or-left _ (not-false (mark .read-file-mark .result) (w .left))) (c .before .if1 .came) in
+    ⊎-elim (λ w. or-right (mark .read-file-mark .result) (sym (w .1 .ensures) ∙ not-false (w .1 .result) (w .2 .left)))
+    (λ w. or-left _ (not-false (mark .read-file-mark .result) (w .left))) (c .before .if1 .came) in
     rw (← mark .read-file-mark .ensures, marked, ← c .file-has-open .ensures)
 
 pub removes-file-spec : {M : Type 1} → statement M

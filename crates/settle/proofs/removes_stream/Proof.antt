@@ -25,8 +25,8 @@ unfolding removesStream namespace bare storeView
 returns-2 c =
     let mark = c .before .before in
     let marked =
-        ⊎-elim (λ w. or-right (mark .read-stream-mark .result) (sym (w .1 .ensures) ∙ not-false (w .1 .result) (w .2 .left)))
-        (λ w. or-left _ (not-false (mark .read-stream-mark .result) (w .left))) (c .before .if1 .came) in
+    ⊎-elim (λ w. or-right (mark .read-stream-mark .result) (sym (w .1 .ensures) ∙ not-false (w .1 .result) (w .2 .left)))
+    (λ w. or-left _ (not-false (mark .read-stream-mark .result) (w .left))) (c .before .if1 .came) in
     let a = mark .before .before .args in
     rw (
       bare-at (decode (a .b .now) .volume .streams) (a .o .stream),
