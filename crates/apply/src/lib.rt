@@ -1,8 +1,6 @@
 // A decided call written into the tables: an accepted open, and an open that is struck. Only the records that change are
 // written.
 use components::part_of;
-use open_rows::RowChange;
-use open_rows::RowChoice;
 use open_rows::change_row;
 use open_steps::AcceptedOpen;
 use open_steps::FileSlots;
@@ -221,13 +219,10 @@ fn store_open(b: &mut [u8], row: usize, o: Open)
 {
     let stream = o.stream;
     let handle = o.handle;
-    let change = change_row(b, RowChoice::Numbered(row), o);
-    let RowChange::At(place, stored) = change else {
-        return;
-    };
+    let stored = change_row(b, row, o);
     let counts = with_open(o, read_counts(b, stream));
     write_counts(b, stream, counts);
-    write_open(b, place, stored);
+    write_open(b, row, stored);
     write_next(b, raised(handle));
 }
 

@@ -6,8 +6,6 @@
 // nothing. No other row has an open.
 use layout::TABLES_SIZE;
 use libc::STDOUT_FILENO;
-use open_rows::RowChange;
-use open_rows::RowChoice;
 use open_rows::change_row;
 use open_rows::conflict_on;
 use open_rows::find_open;
@@ -131,20 +129,6 @@ fn handles(b: &[u8])
     );
 }
 
-fn changes(change: RowChange, n: usize, handle: u64) -> bool {
-    match change {
-        RowChange::At(row, o) => (row == n) & (o.handle.0 == handle),
-        RowChange::Unchanged => false,
-    }
-}
-
-fn marks(change: RowChange) -> bool {
-    match change {
-        RowChange::At(_row, o) => o.delete_on_close,
-        RowChange::Unchanged => false,
-    }
-}
-
 fn new_open() -> Open {
     Open {
         handle: Handle(30),
@@ -160,33 +144,19 @@ fn row_changes(b: &[u8])
     requires { ⌜ length (now b) ≡ tablesSize ⌝ }
 {
     let o = new_open();
-    answer(
-        b"a row has the open stored there",
-        changes(change_row(b, RowChoice::Numbered(5), o), 5, 30),
-    );
+    let stored = change_row(b, 5, o);
+    answer(b"a row has the open stored there", stored.handle.0 == 30);
     answer(
         b"the open stored there deletes on close",
-        marks(change_row(b, RowChoice::Numbered(5), o)),
+        stored.delete_on_close,
     );
     answer(
         b"past the end the open is answered",
-        changes(change_row(b, RowChoice::Numbered(256), o), 256, 30),
+        change_row(b, 256, o).handle.0 == 30,
     );
     answer(
-        b"the row of a handle is freed",
-        changes(
-            change_row(b, RowChoice::WithHandle(Handle(9)), ZERO_OPEN),
-            2,
-            0,
-        ),
-    );
-    answer(
-        b"the row of no handle is changed",
-        changes(
-            change_row(b, RowChoice::WithHandle(Handle(5)), ZERO_OPEN),
-            5,
-            0,
-        ),
+        b"a row that is freed has handle 0",
+        change_row(b, 2, ZERO_OPEN).handle.0 == 0,
     );
 }
 

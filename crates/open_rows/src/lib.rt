@@ -17,7 +17,6 @@ ghost use Rattle.records.specs.Terms.{termsOf};
 ghost use Rattle.sharing.specs.Sharing.{conflict, anyConflict};
 ghost use Rattle.tables.specs.Tables.{live};
 ghost use Rattle.open_rows.specs.Search.{isSought};
-ghost use Rattle.open_rows.specs.Change.{chosenRow, changedRow, openHeld};
 
 // What a row is searched for: an open's handle, or the terms that an open on a stream is to conflict with.
 pub enum Sought {
@@ -132,36 +131,10 @@ pub fn conflict_on(b: &[u8], stream: StreamNo, granted: u32, share: u32) -> bool
     }
 }
 
-// The row that a call changes: the one of this number, or the one of the open that has the handle.
-pub enum RowChoice {
-    Numbered(usize),
-    WithHandle(Handle),
-}
-
-// A changed row: its number, and the open that it has from then on.
-pub enum RowChange {
-    At(usize, Open),
-    Unchanged,
-}
-
-fn chosen_row(rows: [Open; OPEN_SLOTS], c: RowChoice) -> OpenSlot
-    ensures { λ r. ⌜ rowSlot r ≡ chosenRow c rows ⌝ }
-{
-    match c {
-        RowChoice::Numbered(i) => OpenSlot::At(i),
-        RowChoice::WithHandle(h) => found_in(rows, Sought::WithHandle(h)),
-    }
-}
-
-// The row chosen is found in the row that the table is read into, and the open stored there. What goes back to the bytes is
-// the answer. The table is read anew for the store, so that no copy of the row is kept from the one to the other.
-pub fn change_row(b: &[u8], c: RowChoice, o: Open) -> RowChange
+// The open that a row has once it is stored there, of the table read into a row: what goes back to the bytes.
+pub fn change_row(b: &[u8], row: usize, o: Open) -> Open
     requires { ⌜ length (now b) ≡ tablesSize ⌝ }
-    ensures { λ r. ⌜ (changedRow r ≡ chosenRow c (decode (now (b .entry)) .opens .rows)) × (openHeld r o ≡ o) ⌝ }
+    ensures { λ r. ⌜ r ≡ o ⌝ }
 {
-    let slot = chosen_row(read_opens(b), c);
-    let OpenSlot::At(row) = slot else {
-        return RowChange::Unchanged;
-    };
-    RowChange::At(row, stored_in(read_opens(b), row, o))
+    stored_in(read_opens(b), row, o)
 }

@@ -9,14 +9,15 @@ returns : tie.Need-returns
 returns c =
     let settles = c .before .before in
     let strikes = settles .before .before .before .before in
-    let read = strikes .before .before in
-    rw (read .read-open .ensures)
+    let read = strikes .before .before .before .before in
+    rw (read .read-open .ensures, strikes .before .before .change-row .ensures)
     at (changed-then (λ (t : Tables). settled t (read .read-open .result)) (strikes .strike-open .ensures) (settles .settle .ensures))
 
 pub close-row-spec : {M : Type 1} → statement M
 close-row-spec =
     tie.close
     (tie.spec
+    (λ c κs. search needs)
     (λ c κs. search needs)
     (λ c κs. search needs)
     (λ c κs. search needs)
