@@ -11,10 +11,6 @@ module _ {A : Type 0} (p : A → Bool) (z : A) where
   clearedFrom (suc i) [] = []
   clearedFrom (suc i) (x ∷ xs) = x ∷ clearedFrom i xs
 
-  pub cleared-all : (xs : List A) → clearedFrom 0 xs ≡ cleared p z xs
-  unfolding clearedFrom
-  cleared-all xs = refl
-
   -- one that passes and is cleared, and one that does not pass, are done with
   done : (xs : List A) (i : ℕ) (d : A) → i < length xs → p (getD xs i d) ≡ true → clearedFrom (suc i) (set xs i z) ≡ clearedFrom i xs
   unfolding cleared clearedFrom

@@ -1,8 +1,8 @@
 -- Whatever becomes of the file and stream of an open that was struck, the tables are consistent then.
-use Rattle.base.{specs.Base.{ℕ, _<_, _≡_, true, false, not, _&&_, List, length, map, Namespace, namespace, BareStream, bare, bareUsed, bareAt, zeroStream, Stream, Open, Tables}, proofs.Laws.{refl, sym, _∙_, ap, subst, and-left, and-right, not-true, cond-cases, set-clears, map-clears}}
+use Rattle.base.{specs.Base.{ℕ, _<_, _≡_, true, false, not, _&&_, List, length, map, Namespace, namespace, BareStream, bare, bareUsed, bareAt, zeroStream, Stream, Open, Tables}, proofs.Laws.{refl, sym, _∙_, ap, and-left, and-right, not-true, cond-cases, set-clears, map-clears}}
 use Rattle.consistency.{specs.{Relations.streamOf, Consistent.{Consistent, CountsTrue, NoConflicts}}, proofs.{Derived.bare-at, Numbered.stream-iff}}
 use Rattle.tables.specs.Tables.{streamAt, fileHasOpen, streamHasOpen}
-use Rattle.store.proofs.Sequences.{Opens.Names.used-below, Closing.{Facts.{AfterStrike, Settled, fileGoes, streamGoes, files-held, streams-held}, FileMarked.file-marked, StreamMarked.stream-marked, FileRemoved.{file-removed, unopened-streams}, StreamRemoved.stream-removed, Counts.{counts-clear, counts-marked}, Names.names-after}}
+use Rattle.store.proofs.Sequences.{Opens.Names.used-below, Related.consistent-with, Closing.{Facts.{AfterStrike, Settled, fileGoes, streamGoes, files-held, streams-held}, FileMarked.file-marked, StreamMarked.stream-marked, FileRemoved.{file-removed, unopened-streams}, StreamRemoved.stream-removed, Counts.{counts-clear, counts-marked}, Names.names-after}}
 use Rattle.store.specs.{Close.{CloseEffect, unchanged, fileMarked, fileRemoved, streamMarked, streamRemoved, marksFile, marksStream, removesFile, removesStream, closeEffect, cleared, namespaceAfter, filesAfter, linksAfter, streamsAfter}, Store.{storeView, markedStream, volumeAfter, settled}}
 
 -- what an effect leaves: names, opens and marks, and true counts
@@ -93,16 +93,6 @@ module _ (t : Tables) (o : Open)
     unfolding settled namespace volumeAfter
     settled-consistent conflicts =
         let e = closeEffect (storeView t) (namespace (t .volume)) o in
-        let s =
-        subst (λ (x : Namespace). Settled x (t .volume .«next_handle» .0) (t .opens .rows)) (sym (names-after e (t .volume)))
-        (leaves .settled) in
-        record {
-          files = s .names .files;
-          links = s .names .links;
-          streams = s .names .streams;
-          opens = s .opens;
-          counts = leaves .counts;
-          conflicts = conflicts;
-          marks = s .names .marks;
-          held = s .held;
-        }
+        let s = leaves .settled in
+        consistent-with (settled t o) (namespaceAfter e (namespace (t .volume))) (names-after e (t .volume)) (s .names) (s .opens)
+        (leaves .counts) conflicts (s .held)

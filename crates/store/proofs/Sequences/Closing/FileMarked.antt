@@ -1,8 +1,8 @@
 -- A close marks its file: it has no children, is not the root, and has an open still.
-use Rattle.base.{specs.Base.{ℕ, _≡_, true, false, not, _&&_, List, _≢_, set, root, fileUsed, Namespace, FileNo, File, Open}, proofs.Laws.{sym, _∙_, ap, or-right}}
+use Rattle.base.{specs.Base.{ℕ, _≡_, true, false, not, _&&_, List, _≢_, set, root, fileUsed, Namespace, FileNo, File, Open}, proofs.Laws.{refl, sym, _∙_, ap, or-right}}
 use Rattle.consistency.{specs.{Good.GoodFile, Relations.hasChildren, Consistent.MarksConsistent}, proofs.{Derived.file-good, Numbered.same-file}}
 use Rattle.tables.specs.Tables.{fileAt, fileHasOpen, streamHasOpen}
-use Rattle.store.proofs.Sequences.{Changes.{Files.{file-at-new, file-at-other, files-with}, Types.{SameType, links-kept, streams-kept}}, Closing.Facts.{AfterStrike, Settled, fileGoes, streamGoes, file-cases, file-used, file-below, goes-not-root, goes-childless, marked-held, streams-held}}
+use Rattle.store.proofs.Sequences.{Changes.{Attributes.same-types, Files.{file-at-other, files-with}, Types.{SameType, links-kept, streams-kept}}, Closing.Facts.{AfterStrike, Settled, fileGoes, streamGoes, file-cases, file-used, file-below, goes-not-root, goes-childless, marked-held, streams-held}}
 use Rattle.store.specs.Close.{fileMarked, marksFile, markedFile, namespaceAfter, filesAfter, linksAfter, streamsAfter}
 
 module _ {ns : Namespace} {next : ℕ} {os : List Open} {o : Open} (a : AfterStrike ns next os o)
@@ -35,10 +35,7 @@ module _ {ns : Namespace} {next : ℕ} {os : List Open} {o : Open} (a : AfterStr
 
     same : (f : FileNo) → SameType (ns .files) after f
     unfolding markedFile
-    same f =
-        file-cases f (o .file)
-        (λ e. rw e (ap (λ (x : File). x .«file_type») (file-at-new (ns .files) (o .file) marked (file-below a))))
-        (λ n. ap (λ (x : File). x .«file_type») (other f n))
+    same = same-types (ns .files) (o .file) marked refl
 
     mark-stays : (f : FileNo) → f ≢ o .file → fileAt after f .«delete_pending» ≡ fileAt (ns .files) f .«delete_pending»
     mark-stays f n = ap (λ (x : File). x .«delete_pending») (other f n)
