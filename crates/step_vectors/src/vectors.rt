@@ -1417,7 +1417,7 @@ O 0 65536 7 1 4096 0 0 a:s
 }
 
 // DELETE_PENDING.
-pub fn pending() -> [u8; 8485]
+pub fn pending() -> [u8; 8677]
     ensures { λ r. ⌜ r ≡ vectors (pendingFileCases ++ pendingDirectoryCases ++ pendingStreamCases) ⌝ }
 {
     *b"=
@@ -1557,6 +1557,12 @@ O 0 128 7 2 0 0 0 a
 O 0 65536 7 0 4096 1 0 a
 C 2
 O 0 65536 7 1 4096 0 0 a
+>C0000056 - 0
+=
+O 0 128 7 2 0 0 0 a
+O 0 65536 7 0 4096 1 0 a
+C 2
+O 0 2 7 1 0 0 0 a
 >C0000056 - 0
 =
 O 0 128 7 2 0 0 0 a
@@ -1951,6 +1957,13 @@ O 0 128 7 2 0 0 0 a:s
 O 0 65536 7 1 4096 0 0 a:s
 C 2
 O 0 65536 7 1 4096 0 0 a:s:$DATA
+>C0000056 - 0
+=
+O 0 128 7 2 0 0 0 a:s
+O 0 65536 7 1 4096 0 0 a:s
+O 0 128 7 0 0 1 0 a
+C 2
+O 0 2 7 1 0 0 0 a:s
 >C0000056 - 0
 =
 O 0 128 7 2 0 0 0 a:s

@@ -32,7 +32,9 @@ pendingFileCases =
     ++ each (1 ∷ 2 ∷ 3 ∷ []) (λ d. refuses file (ask 1 7 d 1 "a") DELETE_PENDING)
     -- before CANNOT_DELETE
     ++ refuses file (deletes "a") DELETE_PENDING
-    ∷ refuses (after (makes "a" ∷ attributed 0x1 (ask 0x10000 7 0 0x1000 "a") ∷ close 2 ∷ [])) (deletes "a") DELETE_PENDING
+    ∷ refuses readOnly (deletes "a") DELETE_PENDING
+    -- before the access rule by the attributes
+    ∷ refuses readOnly (ask 2 7 1 0 "a") DELETE_PENDING
     -- after steps 1 to 4
     ∷ refuses file (ask 1 8 1 0 "a") INVALID_PARAMETER
     ∷ refuses file (ask 0 7 1 0 "a") ACCESS_DENIED
@@ -67,6 +69,10 @@ pendingFileCases =
   where
     file : Start
     file = marked (makes "a") "a" []
+
+    -- made read-only by the open that marked it
+    readOnly : Start
+    readOnly = after (makes "a" ∷ attributed 0x1 (ask 0x10000 7 0 0x1000 "a") ∷ close 2 ∷ [])
 
     -- `b` and `B`, one of them marked
     two : String → Start
@@ -120,6 +126,7 @@ pendingStreamCases =
     each dispositions (λ d. refuses named (ask 1 7 d 0 "a:s") DELETE_PENDING)
     ++ each dispositions (λ d. refuses (denied named) (by 1 (ask 1 7 d 0 "a:s")) DELETE_PENDING)
     ++ refuses named (deletes "a:s:$DATA") DELETE_PENDING
+    ∷ refuses readOnly (ask 2 7 1 0 "a:s") DELETE_PENDING
     -- after step 5
     ∷ refuses (marked (makes "a:s") "a:s" (marks ∷ [])) (ask 1 7 2 0 "a:s") MEDIA_WRITE_PROTECTED
     ∷ refuses (marked (makes "a:s") "a:s" (marks ∷ [])) (ask 1 7 1 0 "a:s") DELETE_PENDING
@@ -145,6 +152,10 @@ pendingStreamCases =
   where
     named : Start
     named = marked (makes "a:s") "a:s" []
+
+    -- marked after its file was made read-only
+    readOnly : Start
+    readOnly = after (makes "a:s" ∷ deletes "a:s" ∷ attributed 0x1 (ask 0x80 7 0 0 "a") ∷ close 2 ∷ [])
 
     -- the streams `s` and `S`, one of them marked
     two : String → Start
