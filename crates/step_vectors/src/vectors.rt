@@ -1213,7 +1213,7 @@ O 0 1 7 1 0 0 0 a
 }
 
 // Option 0x1000, and CANNOT_DELETE.
-pub fn deletes() -> [u8; 2737]
+pub fn deletes() -> [u8; 2798]
     ensures { λ r. ⌜ r ≡ vectors (deleteOptionCases ++ cannotDeleteNewCases ++ cannotDeleteDirectoryCases ++ cannotDeleteStreamCases) ⌝ }
 {
     *b"=
@@ -1413,6 +1413,10 @@ O 0 65536 7 1 4096 0 0 a
 O 0 1 0 2 0 1 0 a:s
 O 0 65536 7 1 4096 0 0 a:s
 >C0000121 - 0
+=
+O 0 128 7 2 0 1 0 a
+O 0 65538 7 1 4096 0 0 a
+>C0000022 - 0
 "
 }
 
@@ -2026,7 +2030,7 @@ O 0 1 7 1 0 0 1 a:S
 }
 
 // What a close marks and removes.
-pub fn removals() -> [u8; 4683]
+pub fn removals() -> [u8; 5179]
     ensures { λ r. ⌜ r ≡ vectors (markCases ++ childCases ++ removedFileCases ++ removedStreamCases) ⌝ }
 {
     *b"=
@@ -2109,6 +2113,14 @@ O 0 65536 7 1 4096 0 0 d\\a
 C 3
 C 1
 >00000000 - 0
+=
+O 0 65536 7 2 4097 0 0 d
+O 0 128 7 2 0 0 0 d\\a
+O 0 65536 7 1 4096 0 0 d\\a
+C 3
+C 1
+O 0 1 7 1 0 0 0 d
+>00000000 1 4
 =
 O 0 65536 7 2 4097 0 0 d
 O 0 65536 7 2 4096 0 0 d\\a
@@ -2206,6 +2218,13 @@ O 0 65536 7 1 4096 0 0 a
 C 2
 C 1
 >00000000 - 0
+=
+O 0 128 7 2 0 0 0 a:s
+O 0 65536 7 1 4096 0 0 a
+C 2
+C 1
+O 0 1 7 1 0 0 0 a
+>C0000034 - 0
 =
 O 0 128 7 2 0 0 0 a:s
 O 0 128 7 1 0 0 0 a
@@ -2389,5 +2408,26 @@ O 0 128 7 3 0 0 0 a:t
 C 1
 O 0 1 7 2 0 0 0 b:u
 >00000000 2 3
+=
+O 0 128 7 2 0 0 0 a:s
+O 0 128 7 1 0 0 0 a
+O 0 65536 7 1 4096 0 0 a:s
+C 3
+C 1
+O 0 1 7 1 0 0 0 a:s
+>C0000034 - 0
+=
+O 0 128 7 2 0 0 0 a:s
+O 0 128 7 1 0 0 0 a
+O 0 65536 7 1 4096 0 0 a:s
+C 3
+C 2
+O 0 1 7 1 0 0 0 a:s
+>C0000056 - 0
+=
+O 0 65536 7 2 4096 0 0 a:s
+C 1
+O 0 1 7 1 0 0 0 a
+>00000000 1 2
 "
 }

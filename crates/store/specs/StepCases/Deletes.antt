@@ -130,6 +130,8 @@ cannotDeleteStreamCases =
     ∷ refuses (after (attributed 0x1 (ask 1 0 2 0 "a") ∷ [])) (deletes "a") CANNOT_DELETE
     ∷ refuses (after (ask 1 0 2 0 "a" ∷ [])) (deletes "a") SHARING_VIOLATION
     ∷ refuses (after (attributed 0x1 (ask 1 0 2 0 "a:s") ∷ [])) (deletes "a:s") CANNOT_DELETE
+    -- after the access rule, by 0x2 that is asked
+    ∷ refuses (after (attributed 0x1 (makes "a") ∷ [])) (ask 0x10002 7 1 0x1000 "a") ACCESS_DENIED
     -- a missing stream of a file that may go; the read-only volume refuses it
     ∷ accepts (fileAs 0 0) (makesDeleting "a:t") FILE_CREATED (made 0 "a" 0x20 ∷ []) (stream 1 "" ∷ stream 1 "s" ∷ stream 1 "t" ∷ [])
     (deleting (entry 2 1 3 0x10002 7) ∷ entry 1 1 2 0x80 7 ∷ [])

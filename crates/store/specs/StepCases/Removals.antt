@@ -1,7 +1,7 @@
 -- What a close marks, and what it removes.
 use Rattle.base.specs.Base.{ℕ, true, false, List, [], _∷_, _++_}
 use Prim.Native.String.{String}
-use Rattle.store.specs.{Calls.Call, StepCases.{Form.{Case, Made, refuses, accepts, does, ask, attributed, close, after, makes, makesDirectory, deletes, makesDeleting, makesDirectoryDeleting, marks, made, pending, gone, stream, pendingStream, goneStream, ofDirectory, entry, deleting}, Statuses.{OBJECT_PATH_NOT_FOUND, OBJECT_NAME_NOT_FOUND, INVALID_HANDLE, FILE_CREATED}}}
+use Rattle.store.specs.{Calls.Call, StepCases.{Form.{Case, Made, refuses, accepts, does, ask, attributed, close, after, makes, makesDirectory, deletes, makesDeleting, makesDirectoryDeleting, marks, made, pending, gone, stream, pendingStream, goneStream, ofDirectory, entry, deleting}, Statuses.{OBJECT_PATH_NOT_FOUND, OBJECT_NAME_NOT_FOUND, INVALID_HANDLE, DELETE_PENDING, FILE_OPENED, FILE_CREATED}}}
 
 -- nothing is left but the root
 abbrev pub empties : List Call → ℕ → Case
@@ -58,6 +58,10 @@ childCases =
     (made 0 "d" 0x10 ∷ pending (made 1 "a" 0x20) ∷ [])
     (ofDirectory 1 ∷ stream 2 "" ∷ [])
     (entry 2 2 2 0x80 7 ∷ [])
+    ∷ accepts (after (makesDirectoryDeleting "d" ∷ makes "d\\a" ∷ deletes "d\\a" ∷ close 3 ∷ close 1 ∷ [])) (ask 1 7 1 0 "d") FILE_OPENED
+    (made 0 "d" 0x10 ∷ pending (made 1 "a" 0x20) ∷ [])
+    (ofDirectory 1 ∷ stream 2 "" ∷ [])
+    (entry 4 1 1 1 7 ∷ entry 2 2 2 0x80 7 ∷ [])
     -- a child that is gone counts no more
     ∷ empties (makesDirectoryDeleting "d" ∷ makesDeleting "d\\a" ∷ close 2 ∷ []) 1
     -- at that close alone: once the child is gone, the last open that was not to delete removes nothing
@@ -101,6 +105,7 @@ removedFileCases =
     ∷ empties (makesDeleting "a" ∷ deletes "a" ∷ close 1 ∷ []) 2
     -- the last open on any of its streams: on a named one; the unnamed one's first, and last
     ∷ empties (makes "a:s" ∷ deletes "a" ∷ close 2 ∷ []) 1
+    ∷ refuses (after (makes "a:s" ∷ deletes "a" ∷ close 2 ∷ close 1 ∷ [])) (ask 1 7 1 0 "a") OBJECT_NAME_NOT_FOUND
     ∷ does (after (makes "a:s" ∷ makesToo "a" ∷ deletes "a" ∷ close 3 ∷ [])) (close 2) false (pending (made 0 "a" 0x20) ∷ [])
     (stream 1 "" ∷ stream 1 "s" ∷ [])
     (entry 1 1 2 0x80 7 ∷ [])
@@ -181,7 +186,16 @@ removedStreamCases =
     (made 0 "a" 0x20 ∷ made 0 "b" 0x20 ∷ [])
     (stream 1 "" ∷ stream 2 "" ∷ stream 1 "t" ∷ stream 2 "u" ∷ [])
     (entry 3 2 4 1 7 ∷ entry 2 1 3 0x82 7 ∷ [])
+    -- as the next open sees it: an open of the file doesn't keep the stream, the close of one doesn't remove it, and the
+    -- file that was made with it stays
+    ∷ refuses (after (both ++ close 1 ∷ [])) (ask 1 7 1 0 "a:s") OBJECT_NAME_NOT_FOUND
+    ∷ refuses (after (both ++ close 2 ∷ [])) (ask 1 7 1 0 "a:s") DELETE_PENDING
+    ∷ accepts (after (makesDeleting "a:s" ∷ close 1 ∷ [])) (ask 1 7 1 0 "a") FILE_OPENED file (stream 1 "" ∷ []) (entry 2 1 1 1 7 ∷ [])
     ∷ []
   where
     file : List Made
     file = made 0 "a" 0x20 ∷ []
+
+    -- the stream is marked, with an open of its own, and the file has one
+    both : List Call
+    both = makes "a:s" ∷ ask 0x80 7 1 0 "a" ∷ deletes "a:s" ∷ close 3 ∷ []
