@@ -68,6 +68,10 @@ childCases =
     ∷ does (after (makesDirectory "d" ∷ deletes "d" ∷ makesDeleting "d\\a" ∷ close 2 ∷ close 3 ∷ [])) (close 1) false (made 0 "d" 0x10 ∷ [])
     (ofDirectory 1 ∷ [])
     []
+    ∷ accepts (after (makesDirectory "d" ∷ deletes "d" ∷ makesDeleting "d\\a" ∷ close 2 ∷ close 3 ∷ close 1 ∷ [])) (ask 1 7 1 0 "d") FILE_OPENED
+    (made 0 "d" 0x10 ∷ [])
+    (ofDirectory 1 ∷ [])
+    (entry 4 1 1 1 7 ∷ [])
     -- a directory that was not marked is still walked
     ∷ accepts (after (makesDirectoryDeleting "d" ∷ makes "d\\a" ∷ close 1 ∷ [])) (ask 1 7 2 0 "d\\b") FILE_CREATED
     (made 0 "d" 0x10 ∷ made 1 "a" 0x20 ∷ made 1 "b" 0x20 ∷ [])
@@ -115,10 +119,17 @@ removedFileCases =
     -- a stream that is marked, or would be, goes with its file
     ∷ empties (makes "a" ∷ makesDeleting "a:s" ∷ deletes "a" ∷ close 3 ∷ close 1 ∷ []) 2
     ∷ empties (makes "a:s" ∷ deletes "a:s" ∷ close 2 ∷ deletes "a" ∷ close 3 ∷ []) 1
+    ∷ accepts (after (makes "a:s" ∷ deletes "a:s" ∷ close 2 ∷ deletes "a" ∷ close 3 ∷ close 1 ∷ [])) (ask 1 7 2 0 "a:s") FILE_CREATED
+    (made 0 "a" 0x20 ∷ [])
+    (stream 1 "" ∷ stream 1 "s" ∷ [])
+    (entry 4 1 2 1 7 ∷ [])
     -- the records of that file alone, between others
     ∷ does (after three) (close 4) false (made 0 "b" 0x20 ∷ gone ∷ made 0 "c" 0x20 ∷ [])
     (stream 1 "" ∷ stream 1 "t" ∷ goneStream ∷ goneStream ∷ stream 3 "" ∷ stream 3 "u" ∷ [])
     (entry 3 3 6 0x80 7 ∷ entry 1 1 2 0x80 7 ∷ [])
+    -- read-only since the open: by its own supersede, by another's
+    ∷ refuses (after (makes "a" ∷ close 1 ∷ attributed 0x1 (ask 0x10000 7 0 0x1000 "a") ∷ close 2 ∷ [])) (ask 1 7 1 0 "a") OBJECT_NAME_NOT_FOUND
+    ∷ refuses (after (makesDeleting "a" ∷ attributed 0x1 (ask 0x80 7 0 0 "a") ∷ close 2 ∷ close 1 ∷ [])) (ask 1 7 1 0 "a") OBJECT_NAME_NOT_FOUND
     -- its handle and its name are gone
     ∷ refuses (after (makesDeleting "a" ∷ close 1 ∷ [])) (close 1) INVALID_HANDLE
     ∷ refuses (after (makesDeleting "a" ∷ close 1 ∷ [])) (ask 1 7 1 0 "a") OBJECT_NAME_NOT_FOUND
