@@ -202,6 +202,7 @@ uint32_t zan_format(uint8_t *tables, size_t tables_len, const uint8_t *masks, si
  * Opens, and makes or replaces where the disposition says so. The path is UTF-16 units of 2 bytes, least significant first,
  * without an end mark; path_len counts bytes, and an odd one is OBJECT_NAME_INVALID. A path that is too long takes no more
  * time than one of 256 units. Backslashes separate names, a colon leads to a stream's name, the empty path is the root.
+ * No name has unit 0 or one of " * / < > ? |. Control units, 1 to 31, may stand in a stream's name, and in no file's.
  * fold: 0 compares names exactly, all else without the case of a to z.
  * Success writes the create action, the access granted and the handle, never 0 and never issued before since the format.
  * A refusal writes ZAN_NO_ACTION, 0 and 0.
@@ -304,6 +305,7 @@ static inline uint32_t zan_audit_volume(const uint8_t *tables)
 /*
  * ASCII text as a path, in a buffer of ZAN_PATH_BUFFER bytes; the result is the path's length in bytes. Text that is too
  * long is cut to a path that is too long still, and a character that isn't ASCII becomes a zero: zan_open refuses both.
+ * Control characters go in as they are, a line end too: in a stream's name they are valid.
  */
 static inline size_t zan_ascii_path(uint8_t *path, const char *text)
 {

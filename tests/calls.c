@@ -873,6 +873,42 @@ static void long_names(void)
     DONE(v);
 }
 
+/* Control units, 1 to 31: in stream names alone. Calls after the one that made such a stream take its tables. */
+static void control_units(void)
+{
+    struct volume v = fresh();
+    char text[16];
+    uint8_t path[] = {'a', 0, ':', 0, 1, 0, 0, 0};
+    struct zan_request r = request_of(1, 7, ZAN_FILE_OPEN_IF, 0);
+    uint32_t unit;
+    ACCEPTED(ZAN_FILE_CREATED, 1, 1, ASK(v, 1, 7, ZAN_FILE_CREATE, 0, "a"));
+    for (unit = 1; unit < 0x20; unit++) {
+        sprintf(text, "b%c", (int)unit);
+        REFUSED(ZAN_STATUS_OBJECT_NAME_INVALID, ASK(v, 1, 7, ZAN_FILE_OPEN_IF, 0, text));
+        sprintf(text, "%c\\b", (int)unit);
+        REFUSED(ZAN_STATUS_OBJECT_NAME_INVALID, ASK(v, 1, 7, ZAN_FILE_OPEN_IF, 0, text));
+        sprintf(text, "a%c:s", (int)unit);
+        REFUSED(ZAN_STATUS_OBJECT_NAME_INVALID, ASK(v, 1, 7, ZAN_FILE_OPEN_IF, 0, text));
+        sprintf(text, "a:s:$DATA%c", (int)unit);
+        REFUSED(ZAN_STATUS_OBJECT_NAME_INVALID, ASK(v, 1, 7, ZAN_FILE_OPEN_IF, 0, text));
+        sprintf(text, "a:s%c:$DATA", (int)unit);
+        ACCEPTED(ZAN_FILE_CREATED, 2 * unit, 3, ASK(v, 1, 7, ZAN_FILE_CREATE, 0, text));
+        sprintf(text, "a:s%c", (int)unit);
+        ACCEPTED(ZAN_FILE_OPENED, 2 * unit + 1, 1, ASK(v, 1, 7, ZAN_FILE_OPEN, 0, text));
+        SAME(unit, v.tables.bytes[STREAMS_AT + (unit + 1) * STREAM_BYTES + 4 + 2]);
+        SAME(1, AUDIT(v));
+    }
+    REFUSED(ZAN_STATUS_OBJECT_NAME_NOT_FOUND, ASK(v, 1, 7, ZAN_FILE_OPEN, 0, "a:s"));
+    ACCEPTED(ZAN_FILE_CREATED, 64, 3, OPEN(v, r, path, 6));
+    REFUSED(ZAN_STATUS_OBJECT_NAME_INVALID, OPEN(v, r, path, sizeof path));
+    path[4] = 0;
+    REFUSED(ZAN_STATUS_OBJECT_NAME_INVALID, OPEN(v, r, path, 6));
+    SAME(ZAN_STATUS_SUCCESS, CLOSE(v, 64));
+    v.tables.bytes[LINKS_AT + 4] = 0x1F;
+    SAME(0, AUDIT(v));
+    DONE(v);
+}
+
 /* Tables that are full, and handles that are used up. */
 static void full_tables(void)
 {
@@ -1061,6 +1097,7 @@ int main(int argc, char **argv)
     odd_paths();
     long_paths();
     long_names();
+    control_units();
     full_tables();
     wide_handles();
     unaligned_tables();

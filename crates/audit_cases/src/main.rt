@@ -10,8 +10,9 @@
 //   N NUMBER                 the volume's next handle
 //   B PLACE BYTE             a byte of the tables, whatever it stands for
 //   T NUMBER                 no change: so many bytes are lent, if there are as many
-// Numbers are hexadecimal. A kind is 0 free, 1 data or 2 directory; a mark is set unless it is 0. In a name `_` is a unit 0 and `^` a unit 1F. A line
-// without `:` or `+`, a letter of no table and a slot past the table's end are answered by `?`.
+// Numbers are hexadecimal. A kind is 0 free, 1 data or 2 directory; a mark is set unless it is 0. In a name `_` is unit 0,
+// `~` unit 1 and `^` unit 1F. A line without `:` or `+`, a letter of no table and a slot past the table's end are answered
+// by `?`.
 //
 // The good volume: `sub`, a directory in the root (file 1); in it the data files `a` (2) and `A` (4) and a directory that
 // is named `sub` too (3). File 2 has the streams `log` and `tag`. Three opens are on its unnamed stream (2): two that
@@ -92,6 +93,7 @@ fn with_digit(number: u32, byte: u8) -> u32 {
 fn unit_of(byte: u8) -> u16 {
     match byte {
         b'_' => 0,
+        b'~' => 1,
         b'^' => 0x1F,
         _ => byte as u16,
     }

@@ -1,34 +1,12 @@
 -- What the writes of an accepted open rely on: its handle is the next one, which is not the last, and the names that it
 -- stores fill their places, since step 4 passed them.
-use Rattle.base.{specs.Base.{ℕ, suc, _≤_, _≡_, Bool, true, false, not, _&&_, List, [], _∷_, Option, none, some, leb, eqb, length, all, isEmpty, same, padded, fileNameLimit, streamNameLimit, lastHandle, Namespace, Refusal, Checked, refused, passed, FileNo, Handle, Request}, proofs.Laws.{refl, arith, length-replicate, and-left, and-right, leb-iff, Ends, stops, goes, went, ends-bind, ends-test, ends-cond, ends-weaker}}
-use lib.ListN.{length-append}
+use Rattle.base.{specs.Base.{ℕ, suc, _≡_, Bool, false, List, [], Option, none, some, eqb, all, isEmpty, fileNameLimit, streamNameLimit, lastHandle, Namespace, Refusal, Checked, refused, passed, FileNo, Handle, Request}, proofs.Laws.{refl, Ends, stops, goes, went, ends-bind, ends-test, ends-cond, ends-weaker}}
 use Rattle.apply.specs.Applied.{StoredNames}
 use Rattle.codecs.specs.Codec.{Each}
 use Rattle.free_slots.specs.Free.{freeFile, freeLink, freeStream}
-use Rattle.names.specs.Names.{validUnit, validFileName, validStreamName}
-use Rattle.units.specs.Units.{dot}
+use Rattle.names.{specs.{Names.{validUnits, validStreamName}, declared.NameKind.the-variants.{FileName, StreamName}}, proofs.ValidNames.file-name-units}
+use Rattle.stored_names.proofs.Padded.{padded-fills}
 use Rattle.store.{specs.{Request.deletesOnClose, Complete.{View, Placed, Decision, shareOf, streamNew, linkNew, placeFile, placeStreams, place, nextHandle, attributeChange, placeExisting, complete, decide}, Prepare.{Creation, newStream, newFile, Pending, existing, creating}}, proofs.Sequences.{Facts.{NamespaceConsistent, CreationFits, PendingFits}, Prepared.prepare-ends}}
-
--- a name that fits, with zeros after it, fills its places
-padded-fills : (limit : ℕ) (n : List ℕ) → length n ≤ limit → length (padded limit n) ≡ limit
-unfolding padded
-padded-fills limit n h = simp (length-append, length-replicate) (omega arith)
-
--- so does every valid name
-file-name-fills : (limit : ℕ) (n : List ℕ) → validFileName limit n ≡ true → length (padded limit n) ≡ limit
-unfolding validFileName
-file-name-fills limit n h =
-    let room = not (isEmpty n) && leb (length n) limit in
-    let noDot = not (same n (dot ∷ [])) in
-    let noDots = not (same n (dot ∷ dot ∷ [])) in
-    padded-fills limit n
-    (leb-iff (length n) limit .0
-    (and-right (not (isEmpty n)) (leb (length n) limit)
-    (and-left room noDot (and-left (room && noDot) noDots (and-left (room && noDot && noDots) (all validUnit n) h)))))
-
-stream-name-fills : (limit : ℕ) (n : List ℕ) → validStreamName limit n ≡ true → length (padded limit n) ≡ limit
-unfolding validStreamName
-stream-name-fills limit n h = padded-fills limit n (leb-iff (length n) limit .0 (and-left _ _ h))
 
 -- a chain of steps, whatever it refuses with and whatever it passes
 abbrev Any : Refusal → Type 0
@@ -43,14 +21,14 @@ abbrev PlacedNames : Placed → Type 0
 PlacedNames p = StoredNames (p .change)
 
 place-ends : (ns : Namespace) (c : Creation) → CreationFits ns c → Ends Any PlacedNames (place ns c)
-unfolding place placeStreams placeFile streamNew linkNew Each
+unfolding place placeStreams placeFile streamNew linkNew Each validStreamName validUnits all
 place-ends ns (newStream f leaf a) fit =
     ends-bind (any-ends (freeStream ns 0))
-    (λ s q. goes (record { links = tt; streams = (stream-name-fills streamNameLimit (leaf .stream) (fit .nameValid), tt) }))
+    (λ s q. goes (record { links = tt; streams = (padded-fills StreamName streamNameLimit (leaf .stream) (fit .nameValid), tt) }))
 place-ends ns (newFile dir leaf file) fit =
-    let link = file-name-fills fileNameLimit (leaf .file) (fit .nameValid) in
-    let unnamed = padded-fills streamNameLimit [] (omega arith) in
-    let named = stream-name-fills streamNameLimit (leaf .stream) (fit .streamValid) in
+    let link = padded-fills FileName fileNameLimit (leaf .file) (file-name-units fileNameLimit (leaf .file) (fit .nameValid)) in
+    let unnamed = padded-fills StreamName streamNameLimit [] refl in
+    let named = padded-fills StreamName streamNameLimit (leaf .stream) (fit .streamValid) in
     ends-bind (any-ends (freeFile ns))
     (λ f a.
     ends-bind (any-ends (freeLink ns))

@@ -1,7 +1,7 @@
 -- Format gives consistent tables.
 use Rattle.base.{specs.Base.{ℕ, _≡_, Bool, true, _&&_, List, within, has, all, allFrom, count, keep, pairs, isEmpty, same, padded, isUsed, isDirectory, fileUsed, linkUsed, openUsed, bare, bareUsed, bareAt, namespace}, proofs.Laws.{refl, ap, and-both}}
 use Rattle.consistency.{specs.{Relations.{validMasks, linkTo, streamOf, unnamedOf, parentOf, reaches}, Slots.slotsTest, Good.{goodFile, isZeroFile, goodLink, isZeroLink, goodStream, isZeroStream, goodOpen, isZeroOpen, linkNamesDiffer, streamNamesDiffer, handlesDiffer, opensAgree}, Test.{filesTest, linksOfFile, linksTest, streamsOfFile, streamsTest, opensTest, sameCounts, countsTest, conflictsTest, fileMarkTest, streamMarkTest, marksTest, consistent}, Consistent.Consistent}, proofs.Equivalence.consistent-iff}
-use Rattle.names.specs.Names.{validUnit, validFileName, validStreamName}
+use Rattle.names.specs.Names.{lowestUnit, validUnit, validUnits, validFileName, validStreamName}
 use Rattle.sharing.specs.Sharing.{onStream, countsOf, countsOfAll}
 use Rattle.stored_names.specs.StoredNames.{units, wellStored}
 use Rattle.tables.specs.Tables.{fileAt, live}
@@ -9,7 +9,7 @@ use Rattle.format.specs.Format.{rootFile, freshVolume, freshOpens}
 
 -- what the tests compute with
 tests : Unit {0}
-unfolding within has all allFrom count keep pairs isEmpty same padded isUsed isDirectory fileUsed linkUsed openUsed fileAt bareAt bare bareUsed namespace units wellStored validStreamName validFileName validUnit countsOf countsOfAll onStream linkTo streamOf unnamedOf live parentOf reaches slotsTest goodFile isZeroFile goodLink isZeroLink goodStream isZeroStream goodOpen isZeroOpen filesTest linkNamesDiffer linksOfFile linksTest streamNamesDiffer streamsOfFile streamsTest handlesDiffer opensTest sameCounts countsTest opensAgree conflictsTest fileMarkTest streamMarkTest marksTest rootFile freshVolume
+unfolding within has all allFrom count keep pairs isEmpty same padded isUsed isDirectory fileUsed linkUsed openUsed fileAt bareAt bare bareUsed namespace units wellStored validStreamName validFileName validUnits validUnit lowestUnit countsOf countsOfAll onStream linkTo streamOf unnamedOf live parentOf reaches slotsTest goodFile isZeroFile goodLink isZeroLink goodStream isZeroStream goodOpen isZeroOpen filesTest linkNamesDiffer linksOfFile linksTest streamNamesDiffer streamsOfFile streamsTest handlesDiffer opensTest sameCounts countsTest opensAgree conflictsTest fileMarkTest streamMarkTest marksTest rootFile freshVolume
 tests = tt
 
 -- each table's test is computed, but for the root's masks

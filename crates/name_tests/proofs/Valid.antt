@@ -1,31 +1,31 @@
 -- The places of a well stored name: each is zero or valid exactly where the units are. And the dots.
-use Rattle.base.{specs.Base.{ℕ, zero, suc, _-_, _<_, _≡_, Bool, true, false, _&&_, List, [], _∷_, eqb, leb, length, getD, drop, all, same, isEmpty, replicate, padded, fileNameLimit, streamNameLimit}, proofs.Laws.{refl, sym, _∙_, ap, arith, by-cases, and-left, and-right, le-leb, same-is, eqb-true, eqb-false, ne-eqb}}
+use Rattle.base.{specs.Base.{ℕ, zero, suc, _-_, _<_, _≡_, Bool, true, false, _&&_, List, [], _∷_, eqb, leb, length, getD, drop, all, same, isEmpty, replicate, padded, fileNameLimit, streamNameLimit}, proofs.Laws.{refl, sym, _∙_, ap, arith, by-cases, and-left, and-right, same-is, eqb-true, eqb-false, ne-eqb}}
 use lib.Dec.{eqb·suc-zero}
 use borrow.Author.Tests.{leb-true, leb-false}
 use lib.ListN.{length-append, length-replicate}
 use mathlib.Core.Bool.{and-true, and-false}
 use Rattle.units.specs.Units.{dot}
-use Rattle.names.{specs.Names.{validUnit, validFileName, validStreamName}, proofs.ValidNames.{dots, file-name-dots, file-name-long, file-name-other, stream-name-long}}
+use Rattle.names.{specs.{Names.{validUnit, validUnits, validFileName, validStreamName}, declared.NameKind.{NameKind, the-variants.{FileName, StreamName}}}, proofs.ValidNames.{dots, units-long, units-short, file-name-dots, file-name-long, file-name-other}}
 use Rattle.stored_names.{specs.StoredNames.{units, wellStored}, proofs.{NameUnits.{units-end, units-next, units-none}, StoredUnits.{isZero, well-stored, units-fit, zeros-stored}}}
 use Rattle.name_tests.specs.NameTests.{goodFileName, goodStreamName, fitsStored, zeroOrValid}
 
-zeros-pass : (us : List ℕ) → all isZero us ≡ true → all zeroOrValid us ≡ true
-unfolding all
-zeros-pass [] h = refl
-zeros-pass (u ∷ us) h = rw (and-left (isZero u) (all isZero us) h) (zeros-pass us (and-right (isZero u) (all isZero us) h))
+-- of a name of either kind
+module _ (k : NameKind) where
+  zeros-pass : (us : List ℕ) → all isZero us ≡ true → all (zeroOrValid k) us ≡ true
+  unfolding all
+  zeros-pass [] h = refl
+  zeros-pass (u ∷ us) h = rw (and-left (isZero u) (all isZero us) h) (zeros-pass us (and-right (isZero u) (all isZero us) h))
 
-units-pass : (n : List ℕ) → all isZero (drop (length (units n)) n) ≡ true → all zeroOrValid n ≡ all validUnit (units n)
-unfolding all units
-units-pass [] h = refl
-units-pass (zero ∷ us) h = zeros-pass us h
-units-pass (suc u ∷ us) h = rw (eqb·suc-zero u) (ap (λ (b : Bool). validUnit (suc u) && b) (units-pass us h))
+  units-pass : (n : List ℕ) → all isZero (drop (length (units n)) n) ≡ true → all (zeroOrValid k) n ≡ all (validUnit k) (units n)
+  unfolding all units
+  units-pass [] h = refl
+  units-pass (zero ∷ us) h = zeros-pass us h
+  units-pass (suc u ∷ us) h = rw (eqb·suc-zero u) (ap (λ (b : Bool). validUnit k (suc u) && b) (units-pass us h))
 
-module _ (n : List ℕ) where
-  pub stored-valid : (wellStored (length n) n && all zeroOrValid n) ≡ (wellStored (length n) n && validStreamName (length n) (units n))
-  unfolding validStreamName
-  stored-valid =
+  pub stored-valid : (n : List ℕ) → (wellStored (length n) n && all (zeroOrValid k) n) ≡ (wellStored (length n) n && validUnits k (length n) (units n))
+  stored-valid n =
       by-cases (wellStored (length n) n)
-      (λ e. rw (e, validStreamName, le-leb (length (units n)) (length n) (units-fit n)) (units-pass n (sym (well-stored n) ∙ e)))
+      (λ e. rw (e, units-short k (length n) (units n) (units-fit n)) (units-pass n (sym (well-stored n) ∙ e)))
       (λ e. rw e)
 
 -- the dots, by the first three places
@@ -80,8 +80,8 @@ module _ (n : List ℕ) where
   good-file-length h = length-test fileNameLimit n h (validFileName fileNameLimit (units n)) (file-name-long fileNameLimit (units n))
 
   pub good-stream-length : (length n ≡ streamNameLimit → ⊥) → goodStreamName n ≡ false
-  unfolding goodStreamName
-  good-stream-length h = length-test streamNameLimit n h (validStreamName streamNameLimit (units n)) (stream-name-long streamNameLimit (units n))
+  unfolding goodStreamName validStreamName
+  good-stream-length h = length-test streamNameLimit n h (validStreamName streamNameLimit (units n)) (units-long StreamName streamNameLimit (units n))
 
   pub good-file-empty : getD n 0 0 ≡ 0 → goodFileName n ≡ false
   unfolding goodFileName validFileName isEmpty
@@ -93,19 +93,19 @@ module _ (n : List ℕ) where
 
   -- with the places of a record, the tests of all places decide
   module _ (long : length n ≡ fileNameLimit) where
-    pub good-file-other : (getD n 0 0 ≡ 0 → ⊥) → dots (units n) ≡ false → (fitsStored n && all zeroOrValid n) ≡ goodFileName n
+    pub good-file-other : (getD n 0 0 ≡ 0 → ⊥) → dots (units n) ≡ false → (fitsStored n && all (zeroOrValid FileName) n) ≡ goodFileName n
     unfolding goodFileName
     good-file-other some e =
         rw (goodFileName, file-name-other fileNameLimit (units n) (λ z. let w : ⊥ = omega (arith, ap length (units-next n 0 some)) in w) e, long)
-        (rw long at (stored-valid n))
+        (rw long at (stored-valid FileName n))
 
   module _ (long : length n ≡ streamNameLimit) where
     pub good-stream-empty : getD n 0 0 ≡ 0 → same n (replicate (length n) 0) ≡ goodStreamName n
-    unfolding goodStreamName validStreamName all
+    unfolding goodStreamName validStreamName validUnits all
     good-stream-empty e =
         rw (goodStreamName, units-end n 0 e, long)
         (sym (and-true (wellStored streamNameLimit n) ∙ zeros-stored streamNameLimit n e))
 
-    pub good-stream-other : (fitsStored n && all zeroOrValid n) ≡ goodStreamName n
-    unfolding goodStreamName
-    good-stream-other = rw (goodStreamName, long) (rw long at (stored-valid n))
+    pub good-stream-other : (fitsStored n && all (zeroOrValid StreamName) n) ≡ goodStreamName n
+    unfolding goodStreamName validStreamName
+    good-stream-other = rw (goodStreamName, long) (rw long at (stored-valid StreamName n))

@@ -1,6 +1,6 @@
 -- What is asked of a name in a used slot: it is well stored, and its units are a valid name.
 use Rattle.base.specs.Base.{ℕ, Bool, _&&_, _||_, List, eqb, leb, length, fileNameLimit, streamNameLimit}
-use Rattle.names.specs.Names.{validUnit, validFileName, validStreamName}
+use Rattle.names.specs.{Names.{validUnit, validFileName, validStreamName}, declared.NameKind.NameKind}
 use Rattle.stored_names.specs.StoredNames.{units, wellStored}
 
 unfoldable pub goodFileName : List ℕ → Bool
@@ -14,5 +14,5 @@ abbrev pub fitsStored : List ℕ → Bool
 fitsStored n = leb (length n) fileNameLimit && wellStored (length n) n
 
 -- a place of such a name
-abbrev pub zeroOrValid : ℕ → Bool
-zeroOrValid u = eqb u 0 || validUnit u
+abbrev pub zeroOrValid : NameKind → ℕ → Bool
+zeroOrValid k u = eqb u 0 || validUnit k u

@@ -1,5 +1,6 @@
 // The tests of a name in a used slot. Each goes through all places without a branch, so that it is compiled to
 // instructions that take eight of them at once. A name is lent, whatever its places.
+use names::NameKind;
 use names::valid_unit;
 use records::sizes::FILE_NAME_LIMIT;
 use records::sizes::STREAM_NAME_LIMIT;
@@ -45,20 +46,20 @@ fn well_stored(name: &[u16]) -> bool
     sum == count * count
 }
 
-fn zero_or_valid(unit: u16) -> bool
-    ensures { λ r. ⌜ r ≡ zeroOrValid unit ⌝ }
+fn zero_or_valid(unit: u16, kind: NameKind) -> bool
+    ensures { λ r. ⌜ r ≡ zeroOrValid kind unit ⌝ }
 {
-    (unit == 0) | valid_unit(unit)
+    (unit == 0) | valid_unit(unit, kind)
 }
 
 // Whether every place is zero or has a valid unit.
-fn zeros_or_valid(name: &[u16]) -> bool
-    ensures { λ r. ⌜ r ≡ all zeroOrValid (now (name .entry)) ⌝ }
+fn zeros_or_valid(name: &[u16], kind: NameKind) -> bool
+    ensures { λ r. ⌜ r ≡ all (zeroOrValid kind) (now (name .entry)) ⌝ }
 {
     let mut valid = true;
     let mut i: usize = 0;
     while i < name.len() {
-        valid = valid & zero_or_valid(name[i]);
+        valid = valid & zero_or_valid(name[i], kind);
         i += 1;
     }
     valid
@@ -90,7 +91,7 @@ pub fn good_file_name(name: &[u16]) -> bool
     if is_dots(name) {
         return false;
     }
-    well_stored(name) & zeros_or_valid(name)
+    well_stored(name) & zeros_or_valid(name, NameKind::FileName)
 }
 
 // The empty name is common, and quickly told.
@@ -101,7 +102,7 @@ pub fn good_stream_name(name: &[u16]) -> bool
         return false;
     }
     if name[0] != 0 {
-        return well_stored(name) & zeros_or_valid(name);
+        return well_stored(name) & zeros_or_valid(name, NameKind::StreamName);
     }
     zero_name(name)
 }

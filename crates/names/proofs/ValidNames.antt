@@ -1,8 +1,7 @@
 -- Laws of valid units and names, as the code tests them.
-use Rattle.base.{specs.Base.{ℕ, _≤_, _<_, _≡_, Bool, true, false, not, _&&_, _||_, List, [], _∷_, eqb, leb, length, getD, all, isEmpty, same}, proofs.Laws.{refl, arith, le-leb, lt-leb, empty-length, eq-eqb, ne-eqb, same-lengths}}
-use mathlib.Core.Bool.{and-false}
+use Rattle.base.{specs.Base.{ℕ, _≤_, _<_, _≡_, Bool, true, false, not, _&&_, _||_, List, [], _∷_, eqb, leb, length, getD, all, isEmpty, same}, proofs.Laws.{refl, arith, le-leb, lt-leb, leb-iff, refuted, not-both, and-left, and-right, empty-length, eq-eqb, ne-eqb, same-lengths}}
 use Rattle.units.specs.Units.{dot}
-use Rattle.names.specs.Names.{validUnit, validFileName, validStreamName}
+use Rattle.names.specs.{Names.{lowestUnit, validUnit, validUnits, validFileName}, declared.NameKind.{NameKind, the-variants.{FileName, StreamName}}}
 
 -- `.` and `..`
 
@@ -35,41 +34,67 @@ dots-two (x ∷ y ∷ z ∷ n) h = absurd (omega arith)
 pub dots-none : (n : List ℕ) → (length n ≡ 1 → ⊥) → (length n ≡ 2 → ⊥) → dots n ≡ false
 dots-none n one two = rw (same-lengths n (dot ∷ []) one, same-lengths n (dot ∷ dot ∷ []) two)
 
--- whole names, over the limit
+-- no name has a unit 0
+
+zero-invalid : (k : NameKind) → validUnit k 0 ≡ false
+unfolding validUnit lowestUnit
+zero-invalid FileName = refl
+zero-invalid StreamName = refl
+
+pub no-zero : (k : NameKind) (us : List ℕ) → all (validUnit k) (0 ∷ us) ≡ true → ⊥
+unfolding all
+no-zero k us h = not-both (and-left (validUnit k 0) (all (validUnit k) us) h) (zero-invalid k)
+
+-- the units of a name, over the kind and the limit
+
+module _ (k : NameKind) (limit : ℕ) (n : List ℕ) where
+  pub units-long : limit < length n → validUnits k limit n ≡ false
+  unfolding validUnits
+  units-long h = rw (lt-leb (length n) limit h)
+
+  pub units-short : length n ≤ limit → validUnits k limit n ≡ all (validUnit k) n
+  unfolding validUnits
+  units-short h = rw (le-leb (length n) limit h)
+
+  pub valid-fits : validUnits k limit n ≡ true → length n ≤ limit
+  unfolding validUnits
+  valid-fits h = leb-iff (length n) limit .0 (and-left (leb (length n) limit) (all (validUnit k) n) h)
+
+  pub valid-each : validUnits k limit n ≡ true → all (validUnit k) n ≡ true
+  unfolding validUnits
+  valid-each h = and-right (leb (length n) limit) (all (validUnit k) n) h
+
+-- file names, over the limit
 
 module _ (limit : ℕ) (n : List ℕ) where
-  pub stream-name-long : limit < length n → validStreamName limit n ≡ false
-  unfolding validStreamName
-  stream-name-long h = rw (lt-leb (length n) limit h)
-
-  pub stream-name-units : length n ≤ limit → validStreamName limit n ≡ all validUnit n
-  unfolding validStreamName
-  stream-name-units h = rw (le-leb (length n) limit h)
+  -- they are valid units
+  pub file-name-units : validFileName limit n ≡ true → validUnits FileName limit n ≡ true
+  unfolding validFileName
+  file-name-units h =
+      and-right (not (isEmpty n) && not (same n (dot ∷ [])) && not (same n (dot ∷ dot ∷ []))) (validUnits FileName limit n) h
 
   pub file-name-long : limit < length n → validFileName limit n ≡ false
+  file-name-long h = refuted _ (λ v. not-both (file-name-units v) (units-long FileName limit n h))
+
+  pub file-name-empty : length n ≡ 0 → validFileName limit n ≡ false
   unfolding validFileName
-  file-name-long h = rw (lt-leb (length n) limit h, and-false (not (isEmpty n)))
+  file-name-empty e = rw (← empty-length n, eq-eqb (length n) 0 e)
 
   pub file-name-dots : dots n ≡ true → validFileName limit n ≡ false
   unfolding validFileName
-  file-name-dots e = go (not (isEmpty n) && leb (length n) limit) (same n (dot ∷ [])) (same n (dot ∷ dot ∷ [])) e
+  file-name-dots e = go (not (isEmpty n)) (same n (dot ∷ [])) (same n (dot ∷ dot ∷ [])) e
     where
-      go : (x one two : Bool) → (one || two) ≡ true → (x && not one && not two && all validUnit n) ≡ false
+      go : (x one two : Bool) → (one || two) ≡ true → (x && not one && not two && validUnits FileName limit n) ≡ false
       go true true two e = refl
       go true false true e = refl
       go true false false e = cc
       go false one two e = refl
 
-  pub file-name-other : (length n ≡ 0 → ⊥) → dots n ≡ false → validFileName limit n ≡ validStreamName limit n
-  unfolding validFileName validStreamName
-  file-name-other some e = rw (← empty-length n, ne-eqb (length n) 0 some) (go (leb (length n) limit) (same n (dot ∷ [])) (same n (dot ∷ dot ∷ [])) e)
+  pub file-name-other : (length n ≡ 0 → ⊥) → dots n ≡ false → validFileName limit n ≡ validUnits FileName limit n
+  unfolding validFileName
+  file-name-other some e = rw (← empty-length n, ne-eqb (length n) 0 some) (go (same n (dot ∷ [])) (same n (dot ∷ dot ∷ [])) e)
     where
-      go : (x one two : Bool) → (one || two) ≡ false → (x && not one && not two && all validUnit n) ≡ (x && all validUnit n)
-      go true true two e = cc
-      go true false true e = cc
-      go true false false e = refl
-      go false one two e = refl
-
-pub file-name-empty : (limit : ℕ) (n : List ℕ) → length n ≡ 0 → validFileName limit n ≡ false
-unfolding validFileName
-file-name-empty limit n e = rw (← empty-length n, eq-eqb (length n) 0 e)
+      go : (one two : Bool) → (one || two) ≡ false → (not one && not two && validUnits FileName limit n) ≡ validUnits FileName limit n
+      go true two e = cc
+      go false true e = cc
+      go false false e = refl

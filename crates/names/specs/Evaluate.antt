@@ -1,6 +1,6 @@
 -- What evaluation unfolds: a proof that names `computes` computes with all of these.
-use Rattle.names.specs.Names.{validUnit, validFileName, validStreamName}
+use Rattle.names.specs.Names.{lowestUnit, validUnit, validUnits, validFileName, validStreamName}
 
 unfoldable pub computes : Unit {0}
-unfolding validUnit validFileName validStreamName
+unfolding lowestUnit validUnit validUnits validFileName validStreamName
 computes = tt

@@ -7,15 +7,31 @@ ghost use mathlib.Core.List.{_∷_, []};
 ghost use Rattle.lists.specs.Lists.{same};
 ghost use Rattle.records.specs.Sizes.{fileNameLimit, streamNameLimit};
 ghost use Rattle.units.specs.Units.{dot};
-ghost use Rattle.names.specs.Names.{validUnit, validFileName, validStreamName};
+ghost use Rattle.names.specs.Names.{lowestUnit, validUnit, validUnits, validFileName, validStreamName};
 
 const DOT: u16 = 0x2E;
 
-// Whether a unit may stand in a name: no control sign, none of `" * / < > ? |`, neither colon nor backslash.
-pub fn valid_unit(unit: u16) -> bool
-    ensures { λ r. ⌜ r ≡ validUnit unit ⌝ }
+// Whose name it is: a file's, or a stream's of a file.
+pub enum NameKind {
+    FileName,
+    StreamName,
+}
+
+// The lowest unit of a name: those below are control units, which stand in stream names alone, and unit 0.
+fn lowest_unit(kind: NameKind) -> u16
+    ensures { λ r. ⌜ r ≡ lowestUnit kind ⌝ }
 {
-    (0x20 <= unit)
+    match kind {
+        NameKind::FileName => 0x20,
+        NameKind::StreamName => 0x1,
+    }
+}
+
+// Whether a unit may stand in a name: not below its lowest, none of `" * / < > ? |`, neither colon nor backslash.
+pub fn valid_unit(unit: u16, kind: NameKind) -> bool
+    ensures { λ r. ⌜ r ≡ validUnit kind unit ⌝ }
+{
+    (lowest_unit(kind) <= unit)
         & (unit != 0x22)
         & (unit != 0x2A)
         & (unit != 0x2F)
@@ -28,15 +44,15 @@ pub fn valid_unit(unit: u16) -> bool
 }
 
 // Whether a name is no longer than the limit and has valid units only.
-fn valid_units(name: &[u16], limit: usize) -> bool
-    ensures { λ r. ⌜ r ≡ validStreamName limit (now (name .entry)) ⌝ }
+fn valid_units(name: &[u16], kind: NameKind, limit: usize) -> bool
+    ensures { λ r. ⌜ r ≡ validUnits kind limit (now (name .entry)) ⌝ }
 {
     if limit < name.len() {
         return false;
     }
     let mut i = 0;
     while i < name.len() {
-        if !valid_unit(name[i]) {
+        if !valid_unit(name[i], kind) {
             return false;
         }
         i += 1;
@@ -66,11 +82,11 @@ pub fn valid_file_name(name: &[u16]) -> bool
     if is_dots(name) {
         return false;
     }
-    valid_units(name, FILE_NAME_LIMIT)
+    valid_units(name, NameKind::FileName, FILE_NAME_LIMIT)
 }
 
 pub fn valid_stream_name(name: &[u16]) -> bool
     ensures { λ r. ⌜ r ≡ validStreamName streamNameLimit (now (name .entry)) ⌝ }
 {
-    valid_units(name, STREAM_NAME_LIMIT)
+    valid_units(name, NameKind::StreamName, STREAM_NAME_LIMIT)
 }

@@ -2,7 +2,7 @@
 -- LeafFits says; the root's has no name.
 use Rattle.base.{specs.Base.{ℕ, _≡_, Bool, true, false, cond, not, _&&_, List, [], _∷_, Option, none, some, all, isEmpty, fileNameLimit, streamNameLimit, Refusal, ObjectNameInvalid}, proofs.Laws.{refl, true≢false, not-true, and-left, and-right, Ends, stops, goes, ends-bind, ends-test, ends-cond}}
 use Rattle.components.specs.Components.{split, components}
-use Rattle.names.specs.Names.{validFileName, validStreamName}
+use Rattle.names.specs.Names.{validUnits, validFileName, validStreamName}
 use Rattle.units.specs.Units.{colon, dataType, equalUnits}
 use Rattle.paths.specs.Paths.{Leaf, noLeaf, leafOf, validLeaf, checkedLeaf, parseComponents, parsePath}
 
@@ -31,7 +31,7 @@ unnamed-of (f ∷ s ∷ t ∷ u ∷ us) l h c = cc
 
 -- the root's
 no-leaf : (wd : Bool) → LeafFits wd noLeaf
-unfolding isEmpty validStreamName all
+unfolding isEmpty validStreamName validUnits all
 no-leaf wd =
     record { fileValid = λ e. absurd (true≢false e); streamValid = refl; noColon = none wd; unnamed = λ e. refl }
   where

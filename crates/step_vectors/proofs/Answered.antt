@@ -1,7 +1,7 @@
 -- The lines of the step cases print on the model what the cases say, by evaluation of the definitions. By the law `every-script`
 -- the compiled calls print the same.
 use Rattle.base.{specs.Base._++_, proofs.Laws.refl}
-use Rattle.store.specs.StepCases.{Parameters.{parameterCases, outsideCases, accessBitCases}, Names.{pathCases, nameCases}, Lookups.{readOnlyCases, lookupCases, typeCases}, NewFiles.{newFileCases, parentCases}, Directories.{directoryCases, shareReadCases}, Streams.{foundCases, gainedCases, missingCases}, Rules.{accessCases, sharingCases}, Resources.{resourceCases, slotCases}, Calls.callCases, Deletes.{deleteOptionCases, cannotDeleteNewCases, cannotDeleteDirectoryCases, cannotDeleteStreamCases}, Pending.{pendingFileCases, pendingDirectoryCases, pendingStreamCases}, Removals.{markCases, childCases, removedFileCases, removedStreamCases}}
+use Rattle.store.specs.StepCases.{Parameters.{parameterCases, outsideCases, accessBitCases}, Names.{pathCases, nameCases, controlCases}, Lookups.{readOnlyCases, lookupCases, typeCases}, NewFiles.{newFileCases, parentCases}, Directories.{directoryCases, shareReadCases}, Streams.{foundCases, gainedCases, missingCases}, Rules.{accessCases, sharingCases}, Resources.{resourceCases, slotCases}, Calls.callCases, Deletes.{deleteOptionCases, cannotDeleteNewCases, cannotDeleteDirectoryCases, cannotDeleteStreamCases}, Pending.{pendingFileCases, pendingDirectoryCases, pendingStreamCases}, Removals.{markCases, childCases, removedFileCases, removedStreamCases}}
 use Rattle.step_vectors.specs.Vectors.{computes, Answered}
 
 pub parameters-answered : Answered (parameterCases ++ outsideCases ++ accessBitCases)
@@ -11,6 +11,10 @@ parameters-answered = refl
 pub names-answered : Answered (pathCases ++ nameCases)
 unfolding computes
 names-answered = refl
+
+pub control-units-answered : Answered controlCases
+unfolding computes
+control-units-answered = refl
 
 pub lookups-answered : Answered (readOnlyCases ++ lookupCases ++ typeCases)
 unfolding computes

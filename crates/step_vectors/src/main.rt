@@ -114,6 +114,7 @@ fn main() {
     let mut tables = [0u8; TABLES_SIZE];
     run(&mut tables, &vectors::parameters());
     run(&mut tables, &vectors::names());
+    run(&mut tables, &vectors::control_units());
     run(&mut tables, &vectors::lookups());
     run(&mut tables, &vectors::new_files());
     run(&mut tables, &vectors::directories());

@@ -5,7 +5,7 @@
 ghost use mathlib.Core.Path.{_≡_};
 ghost use mathlib.Core.List.{_++_};
 ghost use Rattle.store.specs.StepCases.Parameters.{parameterCases, outsideCases, accessBitCases};
-ghost use Rattle.store.specs.StepCases.Names.{pathCases, nameCases};
+ghost use Rattle.store.specs.StepCases.Names.{pathCases, nameCases, controlCases};
 ghost use Rattle.store.specs.StepCases.Lookups.{readOnlyCases, lookupCases, typeCases};
 ghost use Rattle.store.specs.StepCases.NewFiles.{newFileCases, parentCases};
 ghost use Rattle.store.specs.StepCases.Directories.{directoryCases, shareReadCases};
@@ -371,7 +371,7 @@ O 0 33554432 7 1 0 0 0 :
 }
 
 // Step 4: paths and names.
-pub fn names() -> [u8; 4520]
+pub fn names() -> [u8; 4232]
     ensures { λ r. ⌜ r ≡ vectors (pathCases ++ nameCases) ⌝ }
 {
     *b"=
@@ -554,12 +554,6 @@ O 0 1 7 2 0 0 0 x\\?\\y
 O 0 1 7 2 0 0 0 \x00
 >C0000033 - 0
 =
-O 0 1 7 2 0 0 0 \x01
->C0000033 - 0
-=
-O 0 1 7 2 0 0 0 \x1F
->C0000033 - 0
-=
 O 0 1 7 2 0 0 0 \"
 >C0000033 - 0
 =
@@ -582,12 +576,6 @@ O 0 1 7 2 0 0 0 |
 >C0000033 - 0
 =
 O 0 1 7 2 0 0 0 a\x00b
->C0000033 - 0
-=
-O 0 1 7 2 0 0 0 a\x01b
->C0000033 - 0
-=
-O 0 1 7 2 0 0 0 a\x1Fb
 >C0000033 - 0
 =
 O 0 1 7 2 0 0 0 a\"b
@@ -614,12 +602,6 @@ O 0 1 7 2 0 0 0 a|b
 O 0 1 7 2 0 0 0 a:s\x00
 >C0000033 - 0
 =
-O 0 1 7 2 0 0 0 a:s\x01
->C0000033 - 0
-=
-O 0 1 7 2 0 0 0 a:s\x1F
->C0000033 - 0
-=
 O 0 1 7 2 0 0 0 a:s\"
 >C0000033 - 0
 =
@@ -644,12 +626,6 @@ O 0 1 7 2 0 0 0 a:s|
 O 0 1 7 2 0 0 0 a\x00\\b
 >C0000033 - 0
 =
-O 0 1 7 2 0 0 0 a\x01\\b
->C0000033 - 0
-=
-O 0 1 7 2 0 0 0 a\x1F\\b
->C0000033 - 0
-=
 O 0 1 7 2 0 0 0 a\"\\b
 >C0000033 - 0
 =
@@ -670,6 +646,137 @@ O 0 1 7 2 0 0 0 a?\\b
 =
 O 0 1 7 2 0 0 0 a|\\b
 >C0000033 - 0
+"
+}
+
+// Step 4: control units in names.
+pub fn control_units() -> [u8; 1708]
+    ensures { λ r. ⌜ r ≡ vectors controlCases ⌝ }
+{
+    *b"=
+O 0 1 7 2 0 0 0 \x01
+>C0000033 - 0
+=
+O 0 1 7 2 0 0 0 \x0D
+>C0000033 - 0
+=
+O 0 1 7 2 0 0 0 \x1F
+>C0000033 - 0
+=
+O 0 1 7 2 0 0 0 a\x01b
+>C0000033 - 0
+=
+O 0 1 7 2 0 0 0 a\x0Db
+>C0000033 - 0
+=
+O 0 1 7 2 0 0 0 a\x1Fb
+>C0000033 - 0
+=
+O 0 1 7 2 0 0 0 a\x01\\b
+>C0000033 - 0
+=
+O 0 1 7 2 0 0 0 a\x0D\\b
+>C0000033 - 0
+=
+O 0 1 7 2 0 0 0 a\x1F\\b
+>C0000033 - 0
+=
+O 0 1 7 2 0 0 0 a\x01:s
+>C0000033 - 0
+=
+O 0 1 7 2 0 0 0 a\x0D:s
+>C0000033 - 0
+=
+O 0 1 7 2 0 0 0 a\x1F:s
+>C0000033 - 0
+=
+O 0 1 7 2 0 0 0 a:\x01
+>00000000 2 1
+=
+O 0 1 7 2 0 0 0 a:\x0D
+>00000000 2 1
+=
+O 0 1 7 2 0 0 0 a:\x1F
+>00000000 2 1
+=
+O 0 1 7 2 0 0 0 a: 
+>00000000 2 1
+=
+O 0 1 7 2 0 0 0 a:s\x01
+>00000000 2 1
+=
+O 0 1 7 2 0 0 0 a:s\x0D
+>00000000 2 1
+=
+O 0 1 7 2 0 0 0 a:s\x1F
+>00000000 2 1
+=
+O 0 1 7 2 0 0 0 a:s\x01:$DATA
+>00000000 2 1
+=
+O 0 1 7 2 0 0 0 a:s\x0D:$DATA
+>00000000 2 1
+=
+O 0 1 7 2 0 0 0 a:s\x1F:$DATA
+>00000000 2 1
+=
+O 0 1 7 2 0 0 0 a:\x00
+>C0000033 - 0
+=
+O 0 1 7 2 0 0 0 a:\x00:$DATA
+>C0000033 - 0
+=
+O 0 1 7 2 0 0 0 a:\x01\x00\x01
+>C0000033 - 0
+=
+O 0 1 7 2 0 0 0 a:\x01*
+>C0000033 - 0
+=
+O 0 1 7 2 0 0 0 a:s:\x01
+>C0000033 - 0
+=
+O 0 1 7 2 0 0 0 a:s:$DATA\x0D
+>C0000033 - 0
+=
+O 0 1 7 2 0 0 0 a:\x01\x01\x01\x01\x01\x01\x01\x01\x01\x01\x01\x01\x01\x01\x01\x01\x01\x01\x01\x01\x01\x01\x01\x01\x01\x01\x01\x01\x01\x01\x01\x01
+>00000000 2 1
+=
+O 0 1 7 2 0 0 0 a:\x01\x01\x01\x01\x01\x01\x01\x01\x01\x01\x01\x01\x01\x01\x01\x01\x01\x01\x01\x01\x01\x01\x01\x01\x01\x01\x01\x01\x01\x01\x01\x01\x01
+>C0000033 - 0
+=
+O 0 128 7 2 0 0 0 a:s
+O 0 128 7 3 0 0 0 a:s\x01
+O 0 1 7 2 0 0 0 a:s\x02
+>00000000 2 3
+=
+O 0 128 7 3 0 0 0 a:s\x01
+O 0 128 7 3 0 0 0 a:s\x02
+O 0 1 7 1 0 0 0 a:s\x02
+>00000000 1 3
+=
+O 0 128 7 3 0 0 0 a:s\x01
+O 0 1 7 1 0 0 0 a:s\x02
+>C0000034 - 0
+=
+O 0 128 7 3 0 0 0 a:s\x01
+O 0 1 7 1 0 0 0 a:s
+>C0000034 - 0
+=
+O 0 128 7 2 0 0 0 a:s
+O 0 1 7 1 0 0 0 a:s\x0D
+>C0000034 - 0
+=
+O 0 128 7 3 0 0 0 a:s\x01
+O 0 1 7 2 0 0 0 a:s\x01
+>C0000035 - 0
+=
+O 0 128 7 3 0 0 0 a:s\x01
+O 0 1 7 1 0 0 1 A:S\x01
+>00000000 1 2
+=
+O 0 128 7 3 0 0 0 a:s\x01
+O 0 1 7 1 0 0 1 a:s!
+>C0000034 - 0
 "
 }
 

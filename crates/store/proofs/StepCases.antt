@@ -1,6 +1,6 @@
 -- The step cases hold, by evaluation of the definitions.
 use Rattle.base.proofs.Laws.{refl}
-use Rattle.store.specs.StepCases.{Form.{expected, failing, Hold}, Parameters.{parameterCases, outsideCases, accessBitCases}, Names.{pathCases, nameCases, namesAlone, NamesAloneHold}, Lookups.{readOnlyCases, lookupCases, typeCases}, NewFiles.{newFileCases, parentCases}, Directories.{directoryCases, shareReadCases}, Streams.{foundCases, gainedCases, missingCases}, Rules.{accessCases, sharingCases}, Resources.{tables, sparse, resourceCases, slotCases}, Calls.callCases, Deletes.{deleteOptionCases, cannotDeleteNewCases, cannotDeleteDirectoryCases, cannotDeleteStreamCases}, Pending.{pendingFileCases, pendingDirectoryCases, pendingStreamCases}, Removals.{markCases, childCases, removedFileCases, removedStreamCases}, Shares.{expectedShares, SharesHold, shareCases}, Tables.{expectedTables, TablesHold, corruptCases, formatCases, runCases}}
+use Rattle.store.specs.StepCases.{Form.{expected, failing, Hold}, Parameters.{parameterCases, outsideCases, accessBitCases}, Names.{pathCases, nameCases, controlCases, namesAlone, NamesAloneHold}, Lookups.{readOnlyCases, lookupCases, typeCases}, NewFiles.{newFileCases, parentCases}, Directories.{directoryCases, shareReadCases}, Streams.{foundCases, gainedCases, missingCases}, Rules.{accessCases, sharingCases}, Resources.{tables, sparse, resourceCases, slotCases}, Calls.callCases, Deletes.{deleteOptionCases, cannotDeleteNewCases, cannotDeleteDirectoryCases, cannotDeleteStreamCases}, Pending.{pendingFileCases, pendingDirectoryCases, pendingStreamCases}, Removals.{markCases, childCases, removedFileCases, removedStreamCases}, Shares.{expectedShares, SharesHold, shareCases}, Tables.{expectedTables, TablesHold, corruptCases, formatCases, runCases}}
 
 pub parameter-cases : Hold parameterCases
 unfolding expected failing
@@ -21,6 +21,10 @@ path-cases = refl
 pub name-cases : Hold nameCases
 unfolding expected failing
 name-cases = refl
+
+pub control-cases : Hold controlCases
+unfolding expected failing
+control-cases = refl
 
 pub names-alone : NamesAloneHold
 unfolding expected namesAlone

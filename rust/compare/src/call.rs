@@ -49,6 +49,16 @@ impl Call {
         }
     }
 
+    /// An open whose path has a unit from 1 to 31.
+    pub fn has_control_unit(&self) -> bool {
+        match self {
+            Call::Open { path, .. } => {
+                path.chunks_exact(2).any(|unit| unit[1] == 0 && (1..0x20).contains(&unit[0]))
+            }
+            _ => false,
+        }
+    }
+
     pub fn on_ours(&self, tables: &mut [u8]) -> Reply {
         use zanthupra_ours as ours;
         match self {

@@ -36,6 +36,9 @@ struct Counts {
     by_call: [u64; CALL_NAMES.len()],
     by_status: BTreeMap<u32, u64>,
     deleted: Deleted,
+    /// Opens with a control unit in the path: accepted, and refused for the name.
+    control_accepted: u64,
+    control_invalid: u64,
     damaged_sound: u64,
     damaged_unsound: u64,
 }
@@ -47,6 +50,10 @@ impl Counts {
         if !matches!(call, Call::Audit) {
             *self.by_status.entry(reply.status).or_default() += 1;
         }
+        if call.has_control_unit() {
+            self.control_accepted += u64::from(reply.status == 0);
+            self.control_invalid += u64::from(reply.status == Status::ObjectNameInvalid.code());
+        }
     }
 
     fn missing(&self) -> Vec<String> {
@@ -55,6 +62,8 @@ impl Counts {
             .filter(|status| !self.by_status.contains_key(&status.code()))
             .map(|status| format!("{status:?}"))
             .chain(self.deleted.missing())
+            .chain((self.control_accepted == 0).then(|| "control units accepted".into()))
+            .chain((self.control_invalid == 0).then(|| "control units refused".into()))
             .collect()
     }
 
@@ -67,10 +76,12 @@ impl Counts {
             .map(|(status, count)| format!("{} {count}", status_name(*status)));
         format!(
             "compare: {} calls, seed {seed}, no difference; {}; delete on close: {}; \
-             damaged tables: {} sound, {} not; {}",
+             control units: {} accepted, {} refused; damaged tables: {} sound, {} not; {}",
             self.calls,
             calls.collect::<Vec<_>>().join(", "),
             self.deleted.summary(),
+            self.control_accepted,
+            self.control_invalid,
             self.damaged_sound,
             self.damaged_unsound,
             statuses.collect::<Vec<_>>().join(", "),

@@ -325,13 +325,30 @@ const FILE_NAMES: [&str; 14] = [
     "\u{161}",
 ];
 /// Paths on which opens meet.
-const OFTEN: [&str; 8] = ["a", "a", "A", "b:s", "d\\a", "d", "d\\e\\a", ""];
+const OFTEN: [&str; 9] = ["a", "a", "A", "b:s", "b:s\u{1}", "d\\a", "d", "d\\e\\a", ""];
 const DIRECTORY_NAMES: [&str; 6] = ["d", "d", "D", "e", "e", "a"];
-const GOOD_SUFFIXES: [&str; 12] = [
-    ":s", ":s", ":S", ":t", ":st", "::$DATA", "::$data", ":s:$DATA", ":S:$DaTa", ":$DATA", ":..",
+const GOOD_SUFFIXES: [&str; 19] = [
+    ":s",
+    ":s",
+    ":S",
+    ":t",
+    ":st",
+    "::$DATA",
+    "::$data",
+    ":s:$DATA",
+    ":S:$DaTa",
+    ":$DATA",
+    ":..",
     ":.",
+    ":\u{1}",
+    ":\u{1f}",
+    ":s\u{1}",
+    ":S\u{1}:$DATA",
+    ":s\r",
+    ":\n",
+    ":abcdefghijklmnopqrstuvwxyz01234\u{1f}",
 ];
-const BAD_SUFFIXES: [&str; 14] = [
+const BAD_SUFFIXES: [&str; 21] = [
     ":",
     "::",
     ":s:",
@@ -341,13 +358,20 @@ const BAD_SUFFIXES: [&str; 14] = [
     ":s:t:u",
     "::x",
     ":s*",
-    ":\u{1f}",
+    ":\u{0}",
+    ":s\u{0}",
+    ":\u{1}*",
+    ":s:\u{1}",
+    ":s:$DATA\r",
+    ":abcdefghijklmnopqrstuvwxyz012345\u{1f}",
+    "\u{1}:s",
+    "\u{1f}:\u{1f}",
     "::$INDEX_ALLOCATION",
     ":abcdefghijklmnopqrstuvwxyz0123456",
     "\\.",
     "\\..",
 ];
-const BAD_NAMES: [&str; 16] = [
+const BAD_NAMES: [&str; 18] = [
     ".",
     "..",
     "a*",
@@ -360,6 +384,8 @@ const BAD_NAMES: [&str; 16] = [
     "\u{0}",
     "a\u{0}",
     "\u{1f}a",
+    "a\u{1}",
+    "\r\\a",
     ":s",
     "::$DATA",
     ".\\a",
@@ -444,7 +470,8 @@ fn padded(rng: &mut Rng, mood: Mood) -> String {
 /// Units that are mostly those with a meaning in paths.
 fn random_units(rng: &mut Rng, most: usize) -> Vec<u8> {
     let count = rng.below(most + 1);
-    let special: Vec<u16> = "\\\\::aAbds.$DATA*?\"/<>|\u{1f}\u{0}\u{20ac}".encode_utf16().collect();
+    let special: Vec<u16> =
+        "\\\\::aAbds.$DATA*?\"/<>|\u{1f}\u{1}\r\u{0}\u{20ac}".encode_utf16().collect();
     (0..count)
         .flat_map(|_| {
             let unit = if rng.chance(90) { rng.pick(&special) } else { rng.next() as u16 };

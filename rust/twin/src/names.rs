@@ -9,12 +9,16 @@ pub const BACKSLASH: Unit = [b'\\', 0];
 pub const COLON: Unit = [b':', 0];
 const DOT: Unit = [b'.', 0];
 
-/// Units that no name holds. Backslash and colon separate names in a path.
+/// The lowest unit of a file's name, and of a stream's, where control units may stand.
+const LOWEST_IN_FILE_NAME: u16 = 0x20;
+const LOWEST_IN_STREAM_NAME: u16 = 1;
+
+/// Units that the name doesn't hold. Backslash and colon separate names in a path.
 #[inline(always)]
-fn is_forbidden(unit: Unit) -> bool {
+fn is_forbidden(unit: Unit, lowest: u16) -> bool {
     let unit = u16::from_le_bytes(unit);
     let is = |character: u8| unit == u16::from(character);
-    (unit < 0x20)
+    (unit < lowest)
         | is(b'"')
         | is(b'*')
         | is(b'/')
@@ -26,18 +30,28 @@ fn is_forbidden(unit: Unit) -> bool {
         | is(b'|')
 }
 
-/// Step 4 for a stream's name, which may be empty. Looks at every unit without a branch,
-/// so that the compiler can take several at once.
+/// Step 4 for the units of a name. Looks at each without a branch, so that the compiler can
+/// take several at once. One body for both kinds of name: inlined, with the lowest unit a
+/// constant, it made the audit of a volume three quarters full a quarter slower.
+#[inline(never)]
+fn has_good_units(units: &[Unit], lowest: u16) -> bool {
+    units.len() <= NAME_UNITS
+        && !units.iter().fold(false, |found, unit| found | is_forbidden(*unit, lowest))
+}
+
+/// Step 4 for a stream's name, which may be empty.
 #[inline]
 pub fn is_stream_name(units: &[Unit]) -> bool {
-    units.len() <= NAME_UNITS
-        && !units.iter().fold(false, |found, unit| found | is_forbidden(*unit))
+    has_good_units(units, LOWEST_IN_STREAM_NAME)
 }
 
 /// Step 4 for a file's name.
 #[inline]
 pub fn is_file_name(units: &[Unit]) -> bool {
-    !units.is_empty() && units != [DOT] && units != [DOT, DOT] && is_stream_name(units)
+    !units.is_empty()
+        && units != [DOT]
+        && units != [DOT, DOT]
+        && has_good_units(units, LOWEST_IN_FILE_NAME)
 }
 
 /// Step 4 for a stream type: empty or $DATA.
@@ -106,9 +120,10 @@ mod tests {
     #[test]
     fn forbidden_units() {
         for unit in 0..=u16::MAX {
-            let forbidden =
-                unit < 0x20 || u8::try_from(unit).is_ok_and(|byte| b"\"*/<>?|\\:".contains(&byte));
-            assert_eq!(is_stream_name(&[unit.to_le_bytes()]), !forbidden, "{unit:x}");
+            let sign = u8::try_from(unit).is_ok_and(|byte| b"\"*/<>?|\\:".contains(&byte));
+            let name = [*b"a\0", unit.to_le_bytes()];
+            assert_eq!(is_stream_name(&name), unit != 0 && !sign, "{unit:x}");
+            assert_eq!(is_file_name(&name), unit >= 0x20 && !sign, "{unit:x}");
         }
     }
 

@@ -116,9 +116,16 @@ fn link_records() {
     inconsistent(&[(link(3) + 4, b"d")]); // twice in the root
     still_consistent(&[(link(3) + 4, b"f")]);
     still_consistent(&[(link(3) + 4, b"D")]);
-    for name in
-        [b"*\0\0\0", b".\0\0\0", b".\0.\0", b"a\0\\\0", b"a\0:\0", b"\x1f\0\0\0", b"\0\0a\0"]
-    {
+    for name in [
+        b"*\0\0\0",
+        b".\0\0\0",
+        b".\0.\0",
+        b"a\0\\\0",
+        b"a\0:\0",
+        b"\x1f\0\0\0",
+        b"a\0\x01\0",
+        b"\0\0a\0",
+    ] {
         inconsistent(&[(link(3) + 4, name)]);
     }
     inconsistent(&[(link(3) + 67, &[1])]); // zeros inside the name
@@ -140,6 +147,9 @@ fn stream_records() {
     inconsistent(&[(stream(6), &[2, 0, 1, 0, b'x'])]);
     inconsistent(&[(stream(4) + 4, b"?")]);
     still_consistent(&[(stream(4) + 4, b".")]);
+    still_consistent(&[(stream(4) + 4, &[1])]);
+    still_consistent(&[(stream(4) + 4, &[b's', 0, 0x1F])]);
+    inconsistent(&[(stream(4) + 4, &[1, 0, 0, 0, 1])]);
     still_consistent(&[(stream(6), &[1, 0, 4, 0, b's'])]);
     inconsistent(&[(stream(6), &[1, 0, 3, 0, b's'])]);
     for count in 0..7 {

@@ -94,6 +94,26 @@ fn step_4_names() {
 }
 
 #[test]
+fn step_4_control_units() {
+    let mut volume = Volume::fresh();
+    for unit in ["\u{1}", "\n", "\r", "\u{1f}"] {
+        for path in [unit.into(), format!("a{unit}"), format!("{unit}\\a"), format!("a{unit}:s")] {
+            volume.refuse(ask(1, 7, 3, 0), &path, Status::ObjectNameInvalid);
+        }
+        volume.accept(ask(1, 7, 3, 0), &format!("a:{unit}"), CreateAction::Created);
+        volume.accept(ask(1, 7, 2, 0), &format!("a:s{unit}:$DATA"), CreateAction::Created);
+        volume.accept(ask(1, 7, 1, 0), &format!("a:s{unit}"), CreateAction::Opened);
+    }
+    volume.refuse(ask(1, 7, 1, 0), "a:s", Status::ObjectNameNotFound);
+    volume.refuse(ask(1, 7, 2, 0), "a:s\r", Status::ObjectNameCollision);
+    for path in ["a:\u{0}", "a:\u{1}\u{0}", "a:\u{1}*", "a:s:\u{1}", "a:s:$DATA\r"] {
+        volume.refuse(ask(1, 7, 3, 0), path, Status::ObjectNameInvalid);
+    }
+    volume.accept(ask(1, 7, 3, 0), &format!("a:{}", "\u{1}".repeat(32)), CreateAction::Created);
+    volume.refuse(ask(1, 7, 3, 0), &format!("a:{}", "\u{1}".repeat(33)), Status::ObjectNameInvalid);
+}
+
+#[test]
 fn step_4_backslashes() {
     let mut volume = Volume::fresh();
     volume.make_directory("d\\");

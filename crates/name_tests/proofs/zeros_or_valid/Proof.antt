@@ -5,20 +5,22 @@ use Rattle.name_tests.proofs.zeros_or_valid.Statement.{statement}
 use Rattle.name_tests.proofs.zeros_or_valid.Tie as tie
 
 abbrev Inv-loop : tie.InvT-loop
-Inv-loop name valid₀ i₀ valid i = all zeroOrValid name ≡ (valid && all zeroOrValid (drop i name))
+Inv-loop name kind valid₀ i₀ valid i = all (zeroOrValid kind) name ≡ (valid && all (zeroOrValid kind) (drop i name))
 
 abbrev μ-loop : tie.MeasureT-loop
-μ-loop name valid₀ i₀ valid i = length name - i
+μ-loop name kind valid₀ i₀ valid i = length name - i
 
 loop-again : tie.Need-loop-again Inv-loop μ-loop
 loop-again c =
     let l = c .before .before .before in
-    all-gathered zeroOrValid (l .before .before .args .name .now) (l .loop .i) (l .loop .valid) (l .loop .inv) 0 (omega arith) (c .zero-or-valid .ensures)
+    let s = l .before .before .args in
+    all-gathered (zeroOrValid (s .kind)) (s .name .now) (l .loop .i) (l .loop .valid) (l .loop .inv) 0 (omega arith) (c .zero-or-valid .ensures)
 
 returns : tie.Need-returns Inv-loop μ-loop
 returns c =
     let l = c .before in
-    all-gathered-end zeroOrValid (l .before .before .args .name .now) (l .loop .i) (l .loop .valid) (l .loop .inv) (omega arith)
+    let s = l .before .before .args in
+    all-gathered-end (zeroOrValid (s .kind)) (s .name .now) (l .loop .i) (l .loop .valid) (l .loop .inv) (omega arith)
 
 pub zeros-or-valid-spec : {M : Type 1} → statement M
 zeros-or-valid-spec =

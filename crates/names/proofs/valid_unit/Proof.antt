@@ -1,7 +1,7 @@
 -- `names::valid_unit` meets its contract: its comparisons are the signs of `forbidden`, the backslash and the colon.
-use Rattle.base.{specs.Base.{_≡_, Bool, true, false, not, _&&_, _||_, any, eqb, leb, oneOf}, proofs.Laws.{refl}}
+use Rattle.base.{specs.Base.{_≡_, Bool, true, false, not, _&&_, _||_, any, eqb, leb, oneOf}, proofs.Laws.{refl, needs}}
 use Rattle.names.proofs.valid_unit.Statement.{statement}
-use Rattle.names.specs.Names.{validUnit}
+use Rattle.names.specs.Names.{lowestUnit, validUnit}
 use Rattle.names.proofs.valid_unit.Tie as tie
 
 -- each sign by itself, and all of them at once
@@ -22,8 +22,9 @@ each-sign true false false false false false false false false false = refl
 returns : tie.Need-returns
 unfolding validUnit oneOf any
 returns c =
-    let u = c .args .unit in
-    each-sign (leb 0x20 u) (eqb u 0x22) (eqb u 0x2A) (eqb u 0x2F) (eqb u 0x3C) (eqb u 0x3E) (eqb u 0x3F) (eqb u 0x7C) (eqb u 0x5C) (eqb u 0x3A)
+    let u = c .before .args .unit in
+    rw (c .lowest-unit .ensures)
+    (each-sign (leb (lowestUnit (c .before .args .kind)) u) (eqb u 0x22) (eqb u 0x2A) (eqb u 0x2F) (eqb u 0x3C) (eqb u 0x3E) (eqb u 0x3F) (eqb u 0x7C) (eqb u 0x5C) (eqb u 0x3A))
 
 pub valid-unit-spec : {M : Type 1} → statement M
-valid-unit-spec = tie.close (tie.spec returns)
+valid-unit-spec = tie.close (tie.spec (λ c κs. search needs) returns)

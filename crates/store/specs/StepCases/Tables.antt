@@ -1,7 +1,7 @@
 -- The object store on its tables: consistency first, format, and calls in a row, with every table afterwards.
-use Rattle.base.specs.Base.{ℕ, _-_, _≡_, Bool, true, false, cond, List, [], _∷_, _++_, map, replicate, fileUsed, linkUsed, streamUsed, openUsed, zeroCounts, BareStream, bareUsed, bare, Unused, Directory, File, Link, Stream, Open, Tables, Step}
+use Rattle.base.specs.Base.{ℕ, _-_, _≡_, Bool, true, false, cond, List, [], _∷_, _++_, map, replicate, fileUsed, linkUsed, streamUsed, openUsed, zeroCounts, BareStream, bareUsed, bare, Unused, Data, Directory, File, Link, Stream, Open, Tables, Step}
 use Rattle.format.specs.Format.{format}
-use Rattle.store.specs.{Store.storeView, Calls.{Call, setsReadOnly, storeStep}, Evaluate.{computes, storeRun}, Cases.sevenCounts, StepCases.{Form.{ask, attributed, folding, close, rows, fileRow, linkRow, streamRow, entryRow, replyRow, refusedRow, acceptedRow, doneRow, observed, failing, Made, made, pending, filesMade, linksMade, stream, pendingStream, ofDirectory, entry, deleting, makesDirectory, deletes, makesDirectoryDeleting}, Statuses.{FILE_CORRUPT_ERROR, INVALID_PARAMETER, MEDIA_WRITE_PROTECTED, SHARING_VIOLATION, INVALID_HANDLE, CANNOT_DELETE, DELETE_PENDING, FILE_SUPERSEDED, FILE_OPENED, FILE_CREATED}}}
+use Rattle.store.specs.{Store.storeView, Calls.{Call, setsReadOnly, storeStep}, Evaluate.{computes, storeRun}, Cases.sevenCounts, StepCases.{Form.{text, ask, asks, attributed, folding, close, rows, fileRow, linkRow, streamRow, entryRow, replyRow, refusedRow, acceptedRow, doneRow, observed, failing, Made, made, pending, filesMade, linksMade, stream, streamAs, pendingStream, ofDirectory, entry, deleting, makesDirectory, deletes, makesDirectoryDeleting}, Statuses.{FILE_CORRUPT_ERROR, INVALID_PARAMETER, OBJECT_NAME_INVALID, MEDIA_WRITE_PROTECTED, SHARING_VIOLATION, INVALID_HANDLE, CANNOT_DELETE, DELETE_PENDING, FILE_SUPERSEDED, FILE_OPENED, FILE_CREATED}}}
 
 -- the tables as rows of numbers: every slot, or the used ones with their numbers
 unfoldable pub countedRow : Stream → List ℕ
@@ -362,6 +362,31 @@ runCases =
     ∷ (stream 2 "", 1 ∷ 0 ∷ 1 ∷ 0 ∷ 1 ∷ 1 ∷ 1 ∷ [])
     ∷ [])
     ((0, entry 6 2 3 4 7) ∷ (1, entry 2 1 2 0x80 0) ∷ [])
+    -- streams named by control units: the tables that hold them stay consistent, and later calls take them
+    ∷ runs
+    (asks 0x80 7 2 0 (text "a:" ++ 0x1 ∷ [])
+    ∷ asks 1 7 3 0 (text "a:" ++ 0x1F ∷ [])
+    ∷ asks 1 7 1 0 (text "a:" ++ 0x1 ∷ [])
+    ∷ asks 1 7 2 0 (text "b" ++ 0x1 ∷ [])
+    ∷ close 2
+    ∷ ask 1 7 1 0 "a"
+    ∷ [])
+    (acceptedRow FILE_CREATED 1 0x80
+    ∷ acceptedRow FILE_CREATED 2 3
+    ∷ acceptedRow FILE_OPENED 3 1
+    ∷ refusedRow OBJECT_NAME_INVALID
+    ∷ doneRow
+    ∷ acceptedRow FILE_OPENED 4 1
+    ∷ [])
+    false
+    5
+    (made 0 "a" 0x20 ∷ [])
+    ((ofDirectory 0, replicate 7 0)
+    ∷ (stream 1 "", 1 ∷ 1 ∷ 0 ∷ 0 ∷ 1 ∷ 1 ∷ 1 ∷ [])
+    ∷ (streamAs Data 1 (0x1 ∷ []), 1 ∷ 1 ∷ 0 ∷ 0 ∷ 1 ∷ 1 ∷ 1 ∷ [])
+    ∷ (streamAs Data 1 (0x1F ∷ []), replicate 7 0)
+    ∷ [])
+    ((0, entry 1 1 2 0x80 7) ∷ (1, entry 4 1 1 1 7) ∷ (2, entry 3 1 2 1 7) ∷ [])
     -- the opens' room
     ∷ room 255 true
     ∷ room 256 false

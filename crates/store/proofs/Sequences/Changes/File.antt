@@ -1,9 +1,9 @@
 -- A file that a directory gains: its placing leaves consistent names.
 use Rattle.base.{specs.Base.{_≤_, suc, all, isEmpty, writes, BareStream, Namespace, bareAt, bareUsed, zeroBare, fileNameLimit, streamNameLimit, fileUsed, isDirectory, linkUsed, root, streamUsed, zeroFile, zeroLink, File, FileNo, LinkNo, StreamNo, set, false, true, List, [], _∷_, _≢_, _≡_}, proofs.Laws.{refuted, not-both, not-is, none-set, set-each, FreeSlot, free-stays, Ends, ends-bind, ends-cond, goes, ne-eqb, _∙_, ap, refl, sym, arith}}
 use Rattle.consistency.{proofs.{Numbered.directory-file, Relations.child-of-iff}, specs.{Consistent.StreamsConsistent, Relations.{childOf, hasChildren, typeAt}}}
-use Rattle.names.specs.Names.{validFileName}
+use Rattle.names.{specs.{Names.{validUnits, validFileName}, declared.NameKind.the-variants.{FileName, StreamName}}, proofs.ValidNames.file-name-units}
 use Rattle.paths.specs.Paths.{Leaf}
-use Rattle.stored_names.{proofs.Padded.{file-name-units, padded-begins, padded-stored, units-padded}, specs.StoredNames.units}
+use Rattle.stored_names.{proofs.Padded.{padded-begins, padded-stored, units-padded}, specs.StoredNames.units}
 use Rattle.tables.specs.Tables.{fileAt}
 use Rattle.store.proofs.Sequences.{Changes.{Files.{FileAdded, file-at-new, file-at-other, files-with, not-added, used-kept}, Free.{file-free, link-free, stream-free}, Links.{LinkSound, links-with}, Marks.{marks-kept, marks-with}, NewStream.{StreamMade, named-sound, no-stream, unnamed-sound}, Relations.link-name-new, Streams.{kept-both, stream-kept, stream-there, streams-with}}, Facts.{Early, FileFits, MarksKept, NamespaceConsistent, PlacedWell, StreamsKept}}
 use Rattle.store.specs.{Complete.{changed, linkNew, place, placeFile, placeStreams, streamNew}, Prepare.newFile}
@@ -19,12 +19,12 @@ module _ (ns : Namespace) (dir : FileNo) (leaf : Leaf) (file : File) (h : Namesp
     unfolding linkUsed fileUsed linkNew
     link-sound gs f u =
         let valid = file-name-units fileNameLimit (leaf .file) (fit .nameValid) in
-        let same = units-padded fileNameLimit (leaf .file) valid in
+        let same = units-padded FileName fileNameLimit (leaf .file) valid in
         record {
           used = not-is (ne-eqb _ 0 (padded-begins fileNameLimit fileNameLimit (leaf .file) (fit .nameValid)));
           good =
               record {
-                nameStored = padded-stored fileNameLimit (leaf .file) valid;
+                nameStored = padded-stored FileName fileNameLimit (leaf .file) valid;
                 nameValid = ap (validFileName fileNameLimit) same ∙ fit .nameValid;
                 namesUsedFile = u;
                 parentDirectory = fit .parent;
@@ -128,7 +128,7 @@ module _ (ns : Namespace) (dir : FileNo) (leaf : Leaf) (file : File) (h : Namesp
             slot-still = free-stays slot unnamed (t .0) (λ e. let z : ⊥ = omega arith in z) free
 
             made : StreamMade (grown ns f file) (set (ns .streams) (s .0) unnamed) f (file .«file_type») (leaf .stream)
-            unfolding unnamed streamNew fileUsed isEmpty all bareAt
+            unfolding unnamed streamNew fileUsed isEmpty validUnits all bareAt
             made =
                 record {
                   used = fit .used;
@@ -140,7 +140,7 @@ module _ (ns : Namespace) (dir : FileNo) (leaf : Leaf) (file : File) (h : Namesp
                       (ns .streams)
                       (s .0)
                       unnamed
-                      (λ u e n. not-both (ap isEmpty (sym n ∙ units-padded streamNameLimit [] refl)) given)
+                      (λ u e n. not-both (ap isEmpty (sym n ∙ units-padded StreamName streamNameLimit [] refl)) given)
                       (λ j u e.
                       absurd
                       (no-stream (ns .files) (grown ns f file) (ns .streams) f (file .«file_type») (h .streams) added

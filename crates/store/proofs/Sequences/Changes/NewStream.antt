@@ -1,8 +1,8 @@
 -- The streams that step 12 makes: a named one of a data file, and the unnamed one of a new file.
 use Rattle.base.{specs.Base.{ℕ, _+_, _≡_, Bool, true, false, List, [], _≢_, all, count, isEmpty, padded, streamNameLimit, isUsed, isDirectory, fileUsed, BareStream, zeroBare, bareUsed, bareAt, FileType, FileNo, StreamNo, File}, proofs.Laws.{false≢true, refl, sym, _∙_, ap, ℕ-discrete, not-both, one, refuted, count-none, one-before, one-added}}
 use Rattle.consistency.{specs.{Relations.{typeAt, streamOf, unnamedOf}, Consistent.StreamsConsistent}, proofs.{Numbered.same-file, Relations.{stream-of-iff, unnamed-iff}, Derived.stream-good}}
-use Rattle.names.specs.Names.{validStreamName}
-use Rattle.stored_names.{specs.StoredNames.units, proofs.Padded.{stream-name-units, units-padded, padded-stored}}
+use Rattle.names.specs.{Names.{validUnits, validStreamName}, declared.NameKind.the-variants.StreamName}
+use Rattle.stored_names.{specs.StoredNames.units, proofs.Padded.{units-padded, padded-stored}}
 use Rattle.tables.specs.Tables.{fileAt}
 use Rattle.store.proofs.Sequences.Changes.{Files.{FileAdded, not-added, used-before}, Streams.StreamSound}
 use Rattle.store.specs.Complete.{streamNew}
@@ -20,18 +20,19 @@ module _ (fs : List File) (ss : List BareStream) (f : FileNo) (type : FileType) 
   made-used = made .used
 
   made-units : units (padded streamNameLimit name) ≡ name
-  made-units = units-padded streamNameLimit name (stream-name-units streamNameLimit name (made .valid))
+  unfolding validStreamName
+  made-units = units-padded StreamName streamNameLimit name (made .valid)
 
   made-sound : ((g : FileNo) → fileUsed (fileAt fs g) ≡ true → count (unnamedOf g) ss + one (unnamedOf g (streamNew f type name)) ≡ 1)
       → ((g : FileNo) → isDirectory (typeAt fs g) ≡ true → count (streamOf g) ss + one (streamOf g (streamNew f type name)) ≡ 1)
       → StreamSound fs ss (streamNew f type name)
-  unfolding streamNew fileUsed
+  unfolding streamNew fileUsed validStreamName
   made-sound unnamed directories =
       record {
         used = made-used;
         good =
             record {
-              nameStored = padded-stored streamNameLimit name (stream-name-units streamNameLimit name (made .valid));
+              nameStored = padded-stored StreamName streamNameLimit name (made .valid);
               nameValid = ap (validStreamName streamNameLimit) made-units ∙ made .valid;
               namesUsedFile = ap isUsed (sym (made .agrees)) ∙ made .used;
               typeAgrees = made .agrees;
@@ -70,7 +71,7 @@ module _ (fs gs : List File) (ss : List BareStream) (n : FileNo) (type : FileTyp
     unnamed = streamNew n type []
 
     unnamed-made : StreamMade gs ss n type []
-    unfolding validStreamName all fileUsed
+    unfolding validStreamName validUnits all fileUsed
     unnamed-made =
         record { used = ap isUsed agrees ∙ added .there; agrees = agrees; valid = refl; nameNew = λ t u e z. no-stream t u e }
 
