@@ -1,6 +1,8 @@
 -- Laws of valid units and names, as the code tests them.
-use Rattle.base.{specs.Base.{ℕ, _≤_, _<_, _≡_, Bool, true, false, not, _&&_, _||_, List, [], _∷_, eqb, leb, length, getD, all, isEmpty, same}, proofs.Laws.{refl, arith, le-leb, lt-leb, leb-iff, refuted, not-both, and-left, and-right, empty-length, eq-eqb, ne-eqb, same-lengths}}
-use Rattle.units.specs.Units.{dot}
+use Rattle.base.{specs.Base.{ℕ, suc, _≤_, _<_, _≡_, Bool, true, false, not, _&&_, _||_, List, [], _∷_, eqb, leb, ltb, length, getD, all, any, isEmpty, oneOf, same}, proofs.Laws.{refl, sym, arith, by-cases, le-leb, lt-leb, leb-iff, refuted, not-both, and-left, and-right, empty-length, eq-eqb, ne-eqb, same-lengths}}
+use borrow.Author.Tests.{leb-false, lt-ltb}
+use mathlib.Core.Bool.{and-true, or-false}
+use Rattle.units.specs.Units.{backslash, colon, dot, forbidden}
 use Rattle.names.specs.{Names.{lowestUnit, validUnit, validUnits, validFileName}, declared.NameKind.{NameKind, the-variants.{FileName, StreamName}}}
 
 -- `.` and `..`
@@ -44,6 +46,26 @@ zero-invalid StreamName = refl
 pub no-zero : (k : NameKind) (us : List ℕ) → all (validUnit k) (0 ∷ us) ≡ true → ⊥
 unfolding all
 no-zero k us h = not-both (and-left (validUnit k 0) (all (validUnit k) us) h) (zero-invalid k)
+
+-- the kinds differ in units 1 to 31 alone: none of those is a sign
+
+no-sign : (u : ℕ) (signs : List ℕ) → all (leb 0x20) signs ≡ true → u < 0x20 → oneOf u signs ≡ false
+unfolding oneOf any all
+no-sign u [] h below = refl
+no-sign u (s ∷ signs) h below =
+    rw (ne-eqb u s (λ e. let z : ⊥ = omega (arith, leb-iff 0x20 s .0 (and-left (leb 0x20 s) (all (leb 0x20) signs) h)) in z))
+    (no-sign u signs (and-right (leb 0x20 s) (all (leb 0x20) signs) h) below)
+
+pub control-units : (u : ℕ) → validUnit StreamName u ≡ (validUnit FileName u || (leb 1 u && ltb u 0x20))
+unfolding validUnit lowestUnit all
+control-units u =
+    by-cases (leb 0x20 u)
+    (λ e.
+    let from = leb-iff 0x20 u .0 e in
+    rw (e, le-leb 1 u (omega arith), lt-leb (suc u) 0x20 (omega arith)) (sym (or-false _)))
+    (λ e.
+    let below = leb-false 0x20 u e in
+    rw (e, no-sign u forbidden refl below, no-sign u (backslash ∷ colon ∷ []) refl below, lt-ltb u 0x20 below) (and-true _))
 
 -- the units of a name, over the kind and the limit
 

@@ -16,11 +16,11 @@ validUnit k u = leb (lowestUnit k) u && not (oneOf u forbidden) && not (oneOf u 
 unfoldable pub validUnits : NameKind → ℕ → List ℕ → Bool
 validUnits k limit n = leb (length n) limit && all (validUnit k) n
 
--- a file name: not empty, neither `.` nor `..`
+-- a file name: not empty, neither `.` nor `..`, its units valid
 unfoldable pub validFileName : ℕ → List ℕ → Bool
 validFileName limit n =
     not (isEmpty n) && not (same n (dot ∷ [])) && not (same n (dot ∷ dot ∷ [])) && validUnits FileName limit n
 
--- a stream name; it may be empty
+-- a stream name: its units valid; it may be empty
 unfoldable pub validStreamName : ℕ → List ℕ → Bool
 validStreamName limit n = validUnits StreamName limit n

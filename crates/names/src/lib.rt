@@ -11,13 +11,13 @@ ghost use Rattle.names.specs.Names.{lowestUnit, validUnit, validUnits, v
 
 const DOT: u16 = 0x2E;
 
-// Whose name it is: a file's, or a stream's of a file.
+// Whose name it is.
 pub enum NameKind {
     FileName,
     StreamName,
 }
 
-// The lowest unit of a name: those below are control units, which stand in stream names alone, and unit 0.
+// The lowest unit of a name: control units, 1 to 31, stand in stream names alone, and unit 0 in none.
 fn lowest_unit(kind: NameKind) -> u16
     ensures { λ r. ⌜ r ≡ lowestUnit kind ⌝ }
 {
