@@ -305,7 +305,7 @@ static inline uint32_t zan_audit_volume(const uint8_t *tables)
 /*
  * ASCII text as a path, in a buffer of ZAN_PATH_BUFFER bytes; the result is the path's length in bytes. Text that is too
  * long is cut to a path that is too long still, and a character that isn't ASCII becomes a zero: zan_open refuses both.
- * Control characters go in as they are, a line end too: in a stream's name they are valid.
+ * Characters 1 to 31 go in as they are, a line end too: they are valid in a stream's name.
  */
 static inline size_t zan_ascii_path(uint8_t *path, const char *text)
 {

@@ -1,4 +1,4 @@
-// The tests of a name in a used slot. Each goes through all places without a branch, so that it is compiled to
+// The tests of a name in a used slot. Each goes through all places without a branch on a unit, so that it is compiled to
 // instructions that take eight of them at once. A name is lent, whatever its places.
 use names::NameKind;
 use names::valid_unit;

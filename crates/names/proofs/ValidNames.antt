@@ -89,7 +89,7 @@ module _ (k : NameKind) (limit : ℕ) (n : List ℕ) where
 -- file names, over the limit
 
 module _ (limit : ℕ) (n : List ℕ) where
-  -- they are valid units
+  -- their units are valid
   pub file-name-units : validFileName limit n ≡ true → validUnits FileName limit n ≡ true
   unfolding validFileName
   file-name-units h =

@@ -36,7 +36,7 @@ struct Counts {
     by_call: [u64; CALL_NAMES.len()],
     by_status: BTreeMap<u32, u64>,
     deleted: Deleted,
-    /// Opens with a control unit in the path: accepted, and refused for the name.
+    /// Opens with a control unit in the path: accepted, and refused with OBJECT_NAME_INVALID.
     control_accepted: u64,
     control_invalid: u64,
     damaged_sound: u64,

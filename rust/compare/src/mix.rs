@@ -348,7 +348,7 @@ const GOOD_SUFFIXES: [&str; 19] = [
     ":\n",
     ":abcdefghijklmnopqrstuvwxyz01234\u{1f}",
 ];
-const BAD_SUFFIXES: [&str; 21] = [
+const BAD_SUFFIXES: [&str; 23] = [
     ":",
     "::",
     ":s:",
@@ -364,6 +364,8 @@ const BAD_SUFFIXES: [&str; 21] = [
     ":s:\u{1}",
     ":s:$DATA\r",
     ":abcdefghijklmnopqrstuvwxyz012345\u{1f}",
+    "\u{0}:s",
+    "*:s",
     "\u{1}:s",
     "\u{1f}:\u{1f}",
     "::$INDEX_ALLOCATION",

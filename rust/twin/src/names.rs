@@ -13,7 +13,8 @@ const DOT: Unit = [b'.', 0];
 const LOWEST_IN_FILE_NAME: u16 = 0x20;
 const LOWEST_IN_STREAM_NAME: u16 = 1;
 
-/// Units that the name doesn't hold. Backslash and colon separate names in a path.
+/// Units that no name with this lowest unit holds. Backslash and colon separate names in
+/// a path.
 #[inline(always)]
 fn is_forbidden(unit: Unit, lowest: u16) -> bool {
     let unit = u16::from_le_bytes(unit);

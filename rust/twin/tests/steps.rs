@@ -106,7 +106,9 @@ fn step_4_control_units() {
     }
     volume.refuse(ask(1, 7, 1, 0), "a:s", Status::ObjectNameNotFound);
     volume.refuse(ask(1, 7, 2, 0), "a:s\r", Status::ObjectNameCollision);
-    for path in ["a:\u{0}", "a:\u{1}\u{0}", "a:\u{1}*", "a:s:\u{1}", "a:s:$DATA\r"] {
+    for path in
+        ["a:\u{0}", "a:\u{1}\u{0}", "a:\u{1}*", "a:s:\u{1}", "a:s:$DATA\r", "a\u{0}:s", "a*:s"]
+    {
         volume.refuse(ask(1, 7, 3, 0), path, Status::ObjectNameInvalid);
     }
     volume.accept(ask(1, 7, 3, 0), &format!("a:{}", "\u{1}".repeat(32)), CreateAction::Created);

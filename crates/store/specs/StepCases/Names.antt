@@ -1,5 +1,5 @@
 -- Step 4: paths and names.
-use Rattle.base.specs.Base.{ℕ, _≡_, Bool, true, false, List, [], _∷_, _++_, replicate, Data, BareStream}
+use Rattle.base.specs.Base.{ℕ, _≡_, Bool, true, false, List, [], _∷_, _++_, replicate, Data}
 use Rattle.names.specs.Names.{validFileName, validStreamName}
 use Rattle.stored_names.specs.StoredNames.{wellStored}
 use Rattle.store.specs.StepCases.{Form.{storedUnits, Case, refuses, accepts, each, text, ask, asks, folding, after, fresh, makes, makesDirectory, marks, made, stream, streamAs, ofDirectory, entry}, Statuses.{OBJECT_NAME_INVALID, OBJECT_PATH_NOT_FOUND, OBJECT_NAME_NOT_FOUND, OBJECT_NAME_COLLISION, FILE_OPENED, FILE_CREATED}}
@@ -110,11 +110,13 @@ nameCases =
     ∷ refuses fresh (ask 1 7 2 0 "x\\y") OBJECT_PATH_NOT_FOUND
     ∷ refuses fresh (ask 1 7 2 0 "x\\?\\y") OBJECT_NAME_INVALID
     ∷ [])
-    -- unit 0 and each of `" * / < > ? |`: in a file's name, in a stream's, before the last component
+    -- unit 0 and each of `" * / < > ? |`: in a file's name, in a stream's, before the last component, in the file part of a
+    -- name with a stream
     ++ each forbidden (λ u. invalid (u ∷ []))
     ++ each forbidden (λ u. invalid (0x61 ∷ u ∷ 0x62 ∷ []))
     ++ each forbidden (λ u. invalid (0x61 ∷ 0x3A ∷ 0x73 ∷ u ∷ []))
     ++ each forbidden (λ u. invalid (0x61 ∷ u ∷ 0x5C ∷ 0x62 ∷ []))
+    ++ each forbidden (λ u. invalid (0x61 ∷ u ∷ 0x3A ∷ 0x73 ∷ []))
   where
     forbidden : List ℕ
     forbidden = 0 ∷ 0x22 ∷ 0x2A ∷ 0x2F ∷ 0x3C ∷ 0x3E ∷ 0x3F ∷ 0x7C ∷ []
@@ -131,7 +133,7 @@ controlCases =
     ++ each (control ++ 0x20 ∷ []) (λ u. validStream (text "a:" ++ u ∷ []) (text "a") (u ∷ []))
     ++ each control (λ u. validStream (text "a:s" ++ u ∷ []) (text "a") (text "s" ++ u ∷ []))
     ++ each control (λ u. validStream (text "a:s" ++ u ∷ text ":$DATA") (text "a") (text "s" ++ u ∷ []))
-    -- not beside unit 0, which is refused alone too, nor beside a forbidden sign
+    -- unit 0, alone and among them; a forbidden sign beside one
     ++ (invalid (text "a:" ++ 0 ∷ [])
     ∷ invalid (text "a:" ++ 0 ∷ text ":$DATA")
     ∷ invalid (text "a:" ++ 0x1 ∷ 0 ∷ 0x1 ∷ [])
@@ -143,37 +145,35 @@ controlCases =
     ∷ validStream (text "a:" ++ replicate 32 0x1) (text "a") (replicate 32 0x1)
     ∷ invalid (text "a:" ++ replicate 33 0x1)
     -- streams that differ in one: each is made, and each is found by its own name
-    ∷ accepts (after (makes "a:s" ∷ makesNamed 0x1 ∷ [])) (asks 1 7 2 0 (named 0x2)) FILE_CREATED (made 0 "a" 0x20 ∷ [])
-    (streams ++ stream 1 "s" ∷ streamAs Data 1 (0x73 ∷ 0x1 ∷ []) ∷ streamAs Data 1 (0x73 ∷ 0x2 ∷ []) ∷ [])
+    ∷ accepts (after (makes "a:s" ∷ makesTo 0x1 ∷ [])) (asks 1 7 2 0 (pathTo 0x2)) FILE_CREATED (made 0 "a" 0x20 ∷ [])
+    (stream 1 "" ∷ stream 1 "s" ∷ streamAs Data 1 (0x73 ∷ 0x1 ∷ []) ∷ streamAs Data 1 (0x73 ∷ 0x2 ∷ []) ∷ [])
     (entry 3 1 4 3 7 ∷ entry 2 1 3 0x82 7 ∷ entry 1 1 2 0x80 7 ∷ [])
-    ∷ accepts (after (makesNamed 0x1 ∷ makesNamed 0x2 ∷ [])) (asks 1 7 1 0 (named 0x2)) FILE_OPENED (made 0 "a" 0x20 ∷ [])
-    (streams ++ streamAs Data 1 (0x73 ∷ 0x1 ∷ []) ∷ streamAs Data 1 (0x73 ∷ 0x2 ∷ []) ∷ [])
+    ∷ accepts (after (makesTo 0x1 ∷ makesTo 0x2 ∷ [])) (asks 1 7 1 0 (pathTo 0x2)) FILE_OPENED (made 0 "a" 0x20 ∷ [])
+    (stream 1 "" ∷ streamAs Data 1 (0x73 ∷ 0x1 ∷ []) ∷ streamAs Data 1 (0x73 ∷ 0x2 ∷ []) ∷ [])
     (entry 3 1 3 1 7 ∷ entry 2 1 3 0x82 7 ∷ entry 1 1 2 0x80 7 ∷ [])
-    ∷ refuses (after (makesNamed 0x1 ∷ [])) (asks 1 7 1 0 (named 0x2)) OBJECT_NAME_NOT_FOUND
-    ∷ refuses (after (makesNamed 0x1 ∷ [])) (ask 1 7 1 0 "a:s") OBJECT_NAME_NOT_FOUND
-    ∷ refuses (after (makes "a:s" ∷ [])) (asks 1 7 1 0 (named 0xD)) OBJECT_NAME_NOT_FOUND
-    ∷ refuses (after (makesNamed 0x1 ∷ [])) (asks 1 7 2 0 (named 0x1)) OBJECT_NAME_COLLISION
+    ∷ refuses (after (makesTo 0x1 ∷ [])) (asks 1 7 1 0 (pathTo 0x2)) OBJECT_NAME_NOT_FOUND
+    ∷ refuses (after (makesTo 0x1 ∷ [])) (ask 1 7 1 0 "a:s") OBJECT_NAME_NOT_FOUND
+    ∷ refuses (after (makes "a:s" ∷ [])) (asks 1 7 1 0 (pathTo 0xD)) OBJECT_NAME_NOT_FOUND
+    ∷ refuses (after (makesTo 0x1 ∷ [])) (asks 1 7 2 0 (pathTo 0x1)) OBJECT_NAME_COLLISION
     -- folding leaves them as they are
-    ∷ accepts (after (makesNamed 0x1 ∷ [])) (folding (asks 1 7 1 0 (text "A:S" ++ 0x1 ∷ []))) FILE_OPENED (made 0 "a" 0x20 ∷ [])
-    (streams ++ streamAs Data 1 (0x73 ∷ 0x1 ∷ []) ∷ [])
+    ∷ accepts (after (makesTo 0x1 ∷ [])) (folding (asks 1 7 1 0 (text "A:S" ++ 0x1 ∷ []))) FILE_OPENED (made 0 "a" 0x20 ∷ [])
+    (stream 1 "" ∷ streamAs Data 1 (0x73 ∷ 0x1 ∷ []) ∷ [])
     (entry 2 1 2 1 7 ∷ entry 1 1 2 0x80 7 ∷ [])
-    ∷ refuses (after (makesNamed 0x1 ∷ [])) (folding (ask 1 7 1 0 "a:s!")) OBJECT_NAME_NOT_FOUND
+    ∷ refuses (after (makesTo 0x1 ∷ [])) (folding (ask 1 7 1 0 "a:s!")) OBJECT_NAME_NOT_FOUND
     ∷ [])
   where
-    -- the first and the last of them, and the two that end a line
+    -- the first and the last of them, line feed and carriage return
     control : List ℕ
     control = 0x1 ∷ 0xA ∷ 0xD ∷ 0x1F ∷ []
 
-    named : ℕ → List ℕ
-    named u = text "a:s" ++ u ∷ []
+    pathTo : ℕ → List ℕ
+    pathTo u = text "a:s" ++ u ∷ []
 
-    makesNamed : ℕ → Call
-    makesNamed u = asks 0x80 7 3 0 (named u)
+    makesTo : ℕ → Call
+    makesTo u = asks 0x80 7 3 0 (pathTo u)
 
-    streams : List BareStream
-    streams = stream 1 "" ∷ []
-
--- names by themselves, as consistency asks for them: no backslash, no colon; in a record the unused units are zero
+-- names by themselves, as consistency asks for them: no backslash, no colon, control units in stream names alone; in a
+-- record the unused units are zero
 unfoldable pub namesAlone : List Bool
 namesAlone =
     validFileName 32 (text "a")
