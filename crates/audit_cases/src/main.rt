@@ -7,6 +7,7 @@
 //   L SLOT PARENT FILE =NAME
 //   S SLOT KIND FILE OPENS READERS WRITERS DELETERS READS WRITES DELETES MARK =NAME     (reads, writes, deletes: those that share these)
 //   O SLOT HANDLE FILE STREAM GRANTED SHARE MARK         (deletes on close)
+//   R FIRST LAST FILE STREAM GRANTED SHARE MARK          the opens of slots FIRST to LAST, each with the handle after its slot's number
 //   N NUMBER                 the volume's next handle
 //   B PLACE BYTE             a byte of the tables, whatever it stands for
 //   T NUMBER                 no change: so many bytes are lent, if there are as many
@@ -207,10 +208,30 @@ fn slots_of(table: u8) -> usize {
         b'F' => FILE_SLOTS,
         b'L' => LINK_SLOTS,
         b'S' => STREAM_SLOTS,
-        b'O' => OPEN_SLOTS,
+        b'O' | b'R' => OPEN_SLOTS,
         b'B' => TABLES_SIZE,
         b'N' | b'T' => 0x1_0000_0000,
         _ => 0,
+    }
+}
+
+// The opens of a run of slots, alike but for their handles.
+fn put_opens(tables: &mut [u8], c: Change)
+    requires { ⌜ length (now tables) ≡ tablesSize ⌝ }
+    ensures { λ _. ⌜ length (now (tables .exit)) ≡ tablesSize ⌝ }
+{
+    let words = c.words;
+    let last = words[1] as usize;
+    let mut o = open_of(c);
+    let mut slot = words[0] as usize;
+    while slot < OPEN_SLOTS {
+        let next = slot + 1;
+        let handle = Handle(next as u64);
+        o.handle = handle;
+        if slot <= last {
+            write_open(tables, slot, o);
+        }
+        slot = next;
     }
 }
 
@@ -239,6 +260,10 @@ fn put(tables: &mut [u8], c: Change)
     }
     if c.table == b'O' {
         write_open(tables, slot as usize, open_of(c));
+        return;
+    }
+    if c.table == b'R' {
+        put_opens(tables, c);
         return;
     }
     if c.table == b'N' {

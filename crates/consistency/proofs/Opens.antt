@@ -1,5 +1,6 @@
 -- The table of opens, and that no two conflict: the tests answer true exactly when the statements hold.
-use Rattle.base.{specs.Base.{ℕ, _≡_, true, false, _&&_, _≢_, List, _↔_, eqb, keep, pairs, root, zeroOpen, openUsed, BareStream, bareAt, Open}, proofs.Laws.{refl, ap, eqb-true, eqb-false, ne-eqb, not-true, not-false, and-iff, not-iff, not-is, eqb-iff, leb-iff, fails-iff, exclude-iff}}
+use Rattle.base.{specs.Base.{ℕ, _≡_, true, false, _&&_, _≢_, List, _↔_, eqb, keep, pairs, root, zeroOpen, openUsed, BareStream, bareAt, Open}, proofs.Laws.{refl, ap, eqb-true, eqb-false, ne-eqb, not-true, not-false, and-iff, not-iff, not-is, eqb-iff, leb-iff, fails-iff, exclude-iff, eqb-swap}}
+use Rattle.sharing.proofs.PairRule.{conflicting-sym}
 use Rattle.tables.specs.Tables.{live}
 use Rattle.consistency.proofs.{Slots.{Decides, slots-iff, two-iff}, Numbered.{same-file, same-stream, same-handle, stream-iff, handle-iff, file-iff}}
 use Rattle.consistency.specs.{Slots.EveryTwo, Good.{goodOpen, isZeroOpen, handlesDiffer, opensAgree, HandlesDiffer, OpensAgree}, Consistent.{GoodOpenOf, OpensConsistent, NoConflicts}, Test.{goodOpenOf, opensTest, conflictsTest}}
@@ -70,6 +71,11 @@ handles-iff = two-iff openUsed zeroOpen refl handlesDiffer HandlesDiffer differ-
 pub agree-iff : (o q : Open) → (opensAgree o q ≡ true) ↔ OpensAgree o q
 unfolding opensAgree
 agree-iff o q = exclude-iff (stream-iff (o .stream) (q .stream)) (λ h. h, λ h. h)
+
+-- in either order
+pub agree-swap : (o q : Open) → opensAgree o q ≡ opensAgree q o
+unfolding opensAgree
+agree-swap o q = rw (eqb-swap (o .stream .0) (q .stream .0), conflicting-sym o q)
 
 pub opens-iff : (ss : List BareStream) (next : ℕ) (os : List Open) → (opensTest ss next os ≡ true) ↔ OpensConsistent ss next os
 unfolding opensTest live

@@ -1,10 +1,10 @@
 -- Some element passes.
 use Prim.Native.Nat.{ℕ, zero, suc, _+_, _≤_, _<_}
 use lib.ListN.{length, getD, set, drop, drop-of-length-le}
-use mathlib.Core.{Path.{_≡_, refl, _∙_, ap, ap₂}, Bool.{Bool, true, false, _&&_, _||_, false≢true}, List.{List, [], _∷_}, Logic.⊎-elim}
+use mathlib.Core.{Path.{_≡_, refl, _∙_, ap, ap₂}, Bool.{Bool, true, false, not, _&&_, _||_, false≢true}, List.{List, [], _∷_}, Logic.⊎-elim}
 use native.Mathlib.Omega.{arith}
 use Rattle.lists.proofs.{Tests.{refuted, not-both, or-cases, or-left, or-right, or-neither}, Places.drop-next}
-use Rattle.lists.specs.Lists.{any}
+use Rattle.lists.specs.Lists.{all, any}
 
 -- at a place
 module _ {A : Type 0} (p : A → Bool) (d : A) where
@@ -61,6 +61,16 @@ module _ {A : Type 0} where
   any-and true p xs = refl
   any-and false p [] = refl
   any-and false p (x ∷ xs) = any-and false p xs
+
+  -- none passes: every one fails
+  pub all-not : (p : A → Bool) (xs : List A) → all (λ x. not (p x)) xs ≡ not (any p xs)
+  unfolding all any
+  all-not p [] = refl
+  all-not p (x ∷ xs) = rw (all-not p xs) (go (p x) (any p xs))
+    where
+      go : (a b : Bool) → (not a && not b) ≡ not (a || b)
+      go true b = refl
+      go false b = refl
 
   -- two tests that agree, and a test that implies another
   pub any-same : (p q : A → Bool) → ((x : A) → p x ≡ q x) → (xs : List A) → any p xs ≡ any q xs

@@ -10,6 +10,7 @@ pub mod Keep
 pub mod Pairs
 pub mod First
 pub mod Permutations
+pub mod Others
 pub mod Set
 pub mod Cleared
 pub mod Pigeonhole

@@ -1,7 +1,7 @@
 -- A list in another order: what does not depend on it.
 use Prim.Native.Nat.{ℕ, zero, suc, _<_}
 use lib.{Dec.eqb, ListN.{length, getD, set}}
-use mathlib.Core.{Path.{_≡_, refl, sym, _∙_, ap, ap₂, subst}, Bool.{Bool, true, false, not, _&&_}, List.{List, [], _∷_}}
+use mathlib.Core.{Path.{_≡_, refl, sym, _∙_, ap, ap₂, subst}, Bool.{Bool, true, false, not, _&&_}, List.{List, [], _∷_, _++_}}
 use native.Mathlib.Omega.{arith}
 use Rattle.lists.proofs.{Tests.{by-cases, and-swap, and-exchange}, Count.count-some, Keep.{keep-yes, keep-no, length-keep}}
 use Rattle.lists.specs.Lists.{all, any, count, keep, pairs, Permutation, nil, skip, swap, both}
@@ -58,6 +58,11 @@ module _ {A : Type 0} where
     perm-pairs (skip x {xs} {ys} h) = ap₂ (λ (a b : Bool). a && b) (perm-all (r x) h) (perm-pairs h)
     perm-pairs (swap x y xs) = rw (s x y) (and-exchange (r y x) (all (r x) xs) (all (r y) xs) (pairs r xs))
     perm-pairs (both h k) = perm-pairs h ∙ perm-pairs k
+
+  -- an element from the middle
+  pub perm-middle : (xs : List A) (y : A) (ys : List A) → Permutation (xs ++ y ∷ ys) (y ∷ (xs ++ ys))
+  perm-middle [] y ys = perm-refl (y ∷ ys)
+  perm-middle (x ∷ xs) y ys = both (skip x (perm-middle xs y ys)) (swap x y (xs ++ ys))
 
   -- one place set: the new list with what stood there is the old one with what is there now
   module _ (d : A) where

@@ -1,6 +1,6 @@
 -- Tests and the facts that they decide.
 use Prim.Native.Nat.{ℕ, _≤_}
-use borrow.Author.Tests.{eqb-true, eq-eqb, leb-true, le-leb, not-true}
+use borrow.Author.Tests.{eqb-true, eqb-false, eq-eqb, ne-eqb, leb-true, le-leb, not-true}
 use lib.Dec.{eqb, leb}
 use mathlib.Core.{Path.{_≡_, refl, sym, _∙_, ap, ap₂}, Bool.{Bool, true, false, not, cond, Bool·beq, _&&_, _||_, true≢false, false≢true}, Logic.{_↔_, _⊎_, inl, inr}, Option.{Option, none, some}}
 use native.Mathlib.Omega.{arith}
@@ -127,3 +127,11 @@ eqb-iff m n = (eqb-true m n, eq-eqb m n)
 
 pub leb-iff : (m n : ℕ) → (leb m n ≡ true) ↔ (m ≤ n)
 leb-iff m n = (leb-true m n, le-leb m n)
+
+-- two numbers are equal in either order
+pub eqb-swap : (m n : ℕ) → eqb m n ≡ eqb n m
+eqb-swap m n = go (eqb m n) refl
+  where
+    go : (b : Bool) → eqb m n ≡ b → b ≡ eqb n m
+    go true e = sym (eq-eqb n m (sym (eqb-true m n e)))
+    go false e = sym (ne-eqb n m (λ q. eqb-false m n e (sym q)))

@@ -66,7 +66,7 @@ module _ (t : Terms) where
       isCounted : Open → Bool
       isCounted o = counted (o .granted)
 
-  all-check-right : (os : List Open)
+  pub all-check-right : (os : List Open)
       → shareCheck (countsOfAll os) t ≡ any (λ o. conflict (termsOf o) t) os
   unfolding shareCheck
   all-check-right os =

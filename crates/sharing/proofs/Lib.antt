@@ -1,4 +1,5 @@
 pub mod PairRule
 pub mod Counts
 pub mod Check
+pub mod Others
 pub mod UpTo

@@ -10,7 +10,7 @@ ghost use Prim.Native.Nat.{_-_};
 ghost use lib.Dec.{eqb, ltb};
 ghost use Rattle.bits.specs.Bits.{has};
 ghost use Rattle.sharing.specs.Sharing.{counted, conflicting, shareCheck};
-ghost use Rattle.sharing.specs.Sharing.{countsOfAll, withoutOpen};
+ghost use Rattle.sharing.specs.Sharing.{countsOfAll, withoutOpen, othersCheck};
 ghost use Rattle.sharing.specs.Saturating.{countLimit, plusUpTo, withOpenUpTo};
 
 // The access that reads, writes and deletes, and the sharing mode that allows each.
@@ -146,4 +146,12 @@ pub fn without_open(o: Open, c: ShareCounts) -> ShareCounts
         shared_write: minus(c.shared_write, one.shared_write),
         shared_delete: minus(c.shared_delete, one.shared_delete),
     }
+}
+
+// The share check of an open that is among those counted, against the others: the counts less its own part.
+pub fn conflicts_with_others(o: Open, c: ShareCounts) -> bool
+    ensures { λ r. ⌜ r ≡ othersCheck c o ⌝ }
+{
+    let others = without_open(o, c);
+    share_check(others, o.granted, o.share)
 }

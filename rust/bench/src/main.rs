@@ -1,23 +1,34 @@
 //! `bench [--quick] [--csv FILE]`: times of open, refused open, close, audit and a close that
-//! deletes, of libzanthupra.a and of the twin in one run, as medians and ratios. With `--csv`
-//! also over volumes filled from 0 to 100 percent, for the plot.
+//! deletes, of libzanthupra.a and of the twin in one run, as medians and ratios; and of the
+//! audit over the opens of one stream. With `--csv` also over volumes filled from 0 to 100
+//! percent, for the plot.
 
 mod measure;
 mod volume;
 
-use measure::{Effort, Measured, Times, CALLS};
+use measure::{Audited, Effort, Measured, Times, CALLS};
 use std::env;
 use std::fs;
 use std::process::ExitCode;
 use volume::{used, Volume};
+use zanthupra_twin::layout::OPENS;
 
 const FULL: Effort = Effort { repeats: 25, rounds: 40, passes: 9 };
 const QUICK: Effort = Effort { repeats: 5, rounds: 10, passes: 3 };
 const STEP: usize = 5;
+/// The audit's panel of the plot, against the opens of one stream.
+const ONE_STREAM: &str = "audit, all opens on one stream";
 
 struct Arguments {
     effort: Effort,
     csv: Option<String>,
+}
+
+/// The volumes of one run, in the order of their tables and lines.
+struct Volumes {
+    shown: Vec<(&'static str, Measured)>,
+    filled: Vec<(usize, Measured)>,
+    crowded: Vec<(usize, Audited)>,
 }
 
 fn arguments() -> Option<Arguments> {
@@ -33,6 +44,63 @@ fn arguments() -> Option<Arguments> {
     Some(arguments)
 }
 
+impl Volumes {
+    fn new(plotted: bool) -> Self {
+        let volumes = [
+            ("fresh", Volume::fresh()),
+            ("three quarters full", Volume::filled(75)),
+            ("full", Volume::filled(100)),
+        ];
+        let (fills, step) = if plotted { (101, STEP) } else { (0, 25) };
+        Volumes {
+            shown: volumes.map(|(what, volume)| (what, Measured::new(volume))).into(),
+            filled: (0..fills)
+                .step_by(STEP)
+                .map(|percent| (percent, Measured::new(Volume::filled(percent))))
+                .collect(),
+            crowded: (0..=100)
+                .step_by(step)
+                .map(|percent| (percent, Audited::new(Volume::crowded(OPENS * percent / 100))))
+                .collect(),
+        }
+    }
+
+    /// Passes over all volumes in turn, so that a busy moment of the machine falls on few of
+    /// the samples of each.
+    fn measure(&mut self, effort: Effort) {
+        for (what, measured) in &self.shown {
+            let used = used(measured.tables());
+            eprintln!(
+                "{what}: {} files, {} links, {} streams, {} opens",
+                used.files, used.links, used.streams, used.opens
+            );
+        }
+        for pass in 1..=effort.passes {
+            eprintln!("pass {pass} of {}", effort.passes);
+            self.shown.iter_mut().for_each(|(_, measured)| measured.pass(effort));
+            self.filled.iter_mut().for_each(|(_, measured)| measured.pass(effort));
+            self.crowded.iter_mut().for_each(|(_, audited)| audited.pass(effort));
+        }
+    }
+
+    /// The plot's figures.
+    fn csv(&self) -> String {
+        let mut lines = String::from("fill_percent,call,ours_us,twin_us\n");
+        for (percent, measured) in &self.filled {
+            let times = measured.medians();
+            for (number, call) in CALLS.iter().enumerate() {
+                let (ours, twin) = (times.ours[number], times.twin[number]);
+                lines += &format!("{percent},{call},{ours:.4},{twin:.4}\n");
+            }
+        }
+        for (percent, audited) in &self.crowded {
+            let [ours, twin] = audited.medians();
+            lines += &format!("{percent},\"{ONE_STREAM}\",{ours:.4},{twin:.4}\n");
+        }
+        lines
+    }
+}
+
 fn print_table(what: &str, times: &Times) {
     println!("{what}");
     println!("  {:<14} {:>9} {:>9} {:>7}", "call", "ours us", "twin us", "ratio");
@@ -42,33 +110,20 @@ fn print_table(what: &str, times: &Times) {
     }
 }
 
-/// Passes over all volumes in turn, so that a busy moment of the machine falls on few of
-/// the samples of each.
-fn measure(volumes: &mut [(String, Measured)], effort: Effort) {
-    for (what, measured) in volumes.iter() {
-        let used = used(measured.tables());
-        eprintln!(
-            "{what}: {} files, {} links, {} streams, {} opens",
-            used.files, used.links, used.streams, used.opens
-        );
+/// The audit's growth: what each open adds to the time without opens.
+fn print_crowded(crowded: &[(usize, Audited)]) {
+    println!("{ONE_STREAM}");
+    println!(
+        "  {:<14} {:>9} {:>9} {:>7} {:>12}",
+        "opens", "ours us", "twin us", "ratio", "ns an open"
+    );
+    let [without, _] = crowded[0].1.medians();
+    for (percent, audited) in crowded {
+        let opens = OPENS * percent / 100;
+        let [ours, twin] = audited.medians();
+        let each = if opens == 0 { 0.0 } else { (ours - without) * 1e3 / opens as f64 };
+        println!("  {opens:<14} {ours:>9.3} {twin:>9.3} {:>7.2} {each:>12.1}", ours / twin);
     }
-    for pass in 1..=effort.passes {
-        eprint!("pass {pass} of {}: ", effort.passes);
-        for (_, measured) in volumes.iter_mut() {
-            measured.pass(effort);
-            eprint!(".");
-        }
-        eprintln!();
-    }
-}
-
-/// The plot's figures of one volume.
-fn csv_lines(percent: usize, times: &Times) -> String {
-    let line = |number: usize| {
-        let (call, ours, twin) = (CALLS[number], times.ours[number], times.twin[number]);
-        format!("{percent},{call},{ours:.4},{twin:.4}\n")
-    };
-    (0..CALLS.len()).map(line).collect()
 }
 
 fn main() -> ExitCode {
@@ -76,27 +131,14 @@ fn main() -> ExitCode {
         eprintln!("usage: bench [--quick] [--csv FILE]");
         return ExitCode::from(2);
     };
-    let mut volumes = vec![
-        ("fresh".into(), Measured::new(Volume::fresh())),
-        ("three quarters full".into(), Measured::new(Volume::filled(75))),
-    ];
-    let shown = volumes.len();
-    let fills = (0..=100).step_by(STEP);
-    if csv.is_some() {
-        for percent in fills.clone() {
-            volumes.push((format!("{percent} percent"), Measured::new(Volume::filled(percent))));
-        }
-    }
-    measure(&mut volumes, effort);
-    for (what, measured) in &volumes[..shown] {
+    let mut volumes = Volumes::new(csv.is_some());
+    volumes.measure(effort);
+    for (what, measured) in &volumes.shown {
         print_table(what, &measured.medians());
     }
+    print_crowded(&volumes.crowded);
     if let Some(file) = csv {
-        let mut lines = String::from("fill_percent,call,ours_us,twin_us\n");
-        for (percent, (_, measured)) in fills.zip(&volumes[shown..]) {
-            lines += &csv_lines(percent, &measured.medians());
-        }
-        if let Err(error) = fs::write(&file, lines) {
+        if let Err(error) = fs::write(&file, volumes.csv()) {
             eprintln!("{file}: {error}");
             return ExitCode::FAILURE;
         }

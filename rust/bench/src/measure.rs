@@ -85,6 +85,41 @@ impl Measured {
     }
 }
 
+/// Tables on which the audit alone is measured, with the times of both so far.
+pub struct Audited {
+    tables: Vec<u8>,
+    samples: [Vec<f64>; 2],
+}
+
+impl Audited {
+    pub fn new(tables: Vec<u8>) -> Self {
+        Audited { tables, samples: Default::default() }
+    }
+
+    /// One pass, in turns as for all calls.
+    pub fn pass(&mut self, effort: Effort) {
+        for round in 0..=effort.rounds {
+            for turn in 0..2 {
+                let side = (round + turn) % 2;
+                let audit = if side == 0 { OURS.audit } else { TWIN.audit };
+                let start = Instant::now();
+                for _ in 0..effort.repeats {
+                    assert!(audit(black_box(&self.tables)));
+                }
+                let time = start.elapsed().as_secs_f64() * 1e6 / f64::from(effort.repeats);
+                if round > 0 {
+                    self.samples[side].push(time);
+                }
+            }
+        }
+    }
+
+    /// Medians in microseconds of ours and of the twin.
+    pub fn medians(&self) -> [f64; 2] {
+        self.samples.clone().map(median)
+    }
+}
+
 /// Mean times of one round in microseconds, on the measured file and on the one that is made
 /// and deleted. Each accepted open is closed again.
 fn one_round(

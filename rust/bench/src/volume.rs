@@ -52,6 +52,18 @@ impl Volume {
         builder.finish("a", "b")
     }
 
+    /// The tables of a fresh volume with one file, and so many opens on its one stream: readers
+    /// that share everything.
+    pub fn crowded(opens: usize) -> Vec<u8> {
+        let mut builder = Builder::new();
+        builder.make("a", 0);
+        for _ in 0..opens {
+            builder.open("a", &request(FILE_READ_DATA, VALID_SHARES));
+        }
+        assert_eq!(used(&builder.tables), Used { files: 2, links: 1, streams: 2, opens });
+        builder.finish("a", "b").tables
+    }
+
     /// Files, streams and opens filled to so many percent; at 100 one slot of each is left
     /// for the measured opens. Links can't be: there is one for each file but the root.
     ///

@@ -1,6 +1,9 @@
--- `audit::tables_consistent` meets its contract: the tests are the parts of the whole.
-use Rattle.base.{specs.Base.{_≡_, Bool, true, false, not}, proofs.Laws.{sym, _∙_, not-true, not-false, needs}}
-use Rattle.consistency.specs.Test.{consistent}
+-- `audit::tables_consistent` meets its contract: the tests are the parts of the whole. The walk over the opens is the test of
+-- conflicts, as it comes after the counts.
+use Rattle.base.{specs.Base.{ℕ, _≡_, Bool, true, false, not, _&&_, List, namespace}, proofs.Laws.{sym, _∙_, and-left, and-right, not-true, not-false, needs}}
+use Rattle.audit_conflicts.{specs.Others.othersTest, proofs.Others.others-decide}
+use Rattle.consistency.specs.Test.{consistent, opensTest, countsTest, conflictsTest}
+use Rattle.layout.specs.Layout.{decode}
 use Rattle.audit.proofs.tables_consistent.Statement.{statement}
 use Rattle.audit.proofs.tables_consistent.Tie as tie
 
@@ -10,6 +13,21 @@ passed {found} e h = sym e ∙ not-false found h
 
 failed : {found test : Bool} → found ≡ test → not found ≡ true → test ≡ false
 failed {found} e h = sym e ∙ not-true found h
+
+module _ (b : List ℕ) where
+  -- the opens are good, and the counts true
+  abbrev goodOpens : Bool
+  goodOpens = let v = decode b .volume in opensTest (namespace v .streams) (v .«next_handle» .0) (decode b .opens .rows)
+
+  abbrev trueCounts : Bool
+  trueCounts = countsTest (decode b .volume .streams) (decode b .opens .rows)
+
+  -- then what the walk found is whether no two conflict
+  no-conflict : (goodOpens && trueCounts) ≡ true → {found : Bool}
+      → found ≡ othersTest (decode b .volume .streams) (decode b .opens .rows) → found ≡ conflictsTest (decode b .opens .rows)
+  unfolding namespace
+  no-conflict e f =
+      f ∙ others-decide _ _ _ (and-left goodOpens trueCounts e) (and-right goodOpens trueCounts e)
 
 returns : tie.Need-returns
 unfolding consistent
@@ -49,13 +67,15 @@ returns-4 c =
     let s = c .before .before .before in
     let l = s .before .before in
     let f = l .before .before in
+    let b = f .before .before .args .b .now in
+    let fails : (goodOpens b && trueCounts b) ≡ false = search failed in
     sym
     (rw (
       consistent,
       passed (f .files-consistent .ensures) (l .before .if1 .left),
       passed (l .links-consistent .ensures) (s .before .if2 .left),
       passed (s .streams-consistent .ensures) (c .before .before .if3 .left),
-      failed (c .before .opens-consistent .ensures) (c .if4 .taken),
+      fails,
     ))
 
 returns-5 : tie.Need-returns-5
@@ -65,14 +85,15 @@ returns-5 c =
     let s = o .before .before in
     let l = s .before .before in
     let f = l .before .before in
+    let good = passed (o .opens-consistent .ensures) (c .before .before .if4 .left) in
     sym
     (rw (
       consistent,
       passed (f .files-consistent .ensures) (l .before .if1 .left),
       passed (l .links-consistent .ensures) (s .before .if2 .left),
       passed (s .streams-consistent .ensures) (o .before .if3 .left),
-      passed (o .opens-consistent .ensures) (c .before .before .if4 .left),
-      failed (c .before .no-conflicts .ensures) (c .if5 .taken),
+      good,
+      failed (no-conflict (f .before .before .args .b .now) good (c .before .no-conflicts .ensures)) (c .if5 .taken),
     ))
 
 returns-6 : tie.Need-returns-6
@@ -83,13 +104,14 @@ returns-6 c =
     let s = o .before .before in
     let l = s .before .before in
     let f = l .before .before in
+    let good = passed (o .opens-consistent .ensures) (n .before .if4 .left) in
     rw (
       consistent,
       passed (f .files-consistent .ensures) (l .before .if1 .left),
       passed (l .links-consistent .ensures) (s .before .if2 .left),
       passed (s .streams-consistent .ensures) (o .before .if3 .left),
-      passed (o .opens-consistent .ensures) (n .before .if4 .left),
-      passed (n .no-conflicts .ensures) (c .before .if5 .left),
+      good,
+      passed (no-conflict (f .before .before .args .b .now) good (n .no-conflicts .ensures)) (c .before .if5 .left),
     )
     (c .marks-consistent .ensures)
 

@@ -1,8 +1,8 @@
 -- Demand 3: every sequence of calls from a freshly formatted volume (store/specs/Sequences.antt has the statement).
-use Rattle.base.{specs.Base.{_<_, suc, zero, ℕ, all, any, keep, nil, pairs, _>>_, passed, refuseIf, Reply, openUsed, zeroOpen, Step, Tables, concluded, Open, Done, Refused, FileCorruptError, InvalidParameter, Status, StreamNo, eqb, length, Bool, _||_, false, not, true, List, [], _∷_, inl, inr, _≡_, done}, proofs.Laws.{and-both, not-is, perm-pairs, eq-eqb, eqb-false, eqb-true, ne-eqb, _∙_, ap, ap₂, refl, subst, subst₂, sym, arith}}
-use Rattle.consistency.{proofs.{Opens.agree-iff, Slots.two-iff}, specs.{Good.{OpensAgree, handlesDiffer, opensAgree}, Relations.validMasks}}
+use Rattle.base.{specs.Base.{_<_, suc, zero, ℕ, all, any, keep, nil, pairs, _>>_, passed, refuseIf, Reply, openUsed, zeroOpen, Step, Tables, concluded, Done, Refused, FileCorruptError, InvalidParameter, Status, StreamNo, eqb, length, Bool, _||_, false, not, true, List, [], _∷_, inl, inr, _≡_, done}, proofs.Laws.{and-both, not-is, perm-pairs, ne-eqb, _∙_, ap, ap₂, refl, subst, subst₂, sym, arith}}
+use Rattle.consistency.{proofs.{Opens.{agree-iff, agree-swap}, Slots.two-iff}, specs.{Good.{OpensAgree, handlesDiffer, opensAgree}, Relations.validMasks}}
 use Rattle.format.{proofs.Fresh.fresh-consistent, specs.Format.{checkedMasks, format, freshTables, freshVolume, rightLengths}}
-use Rattle.sharing.{proofs.{Counts.counts-perm, PairRule.conflicting-sym}, specs.Sharing.countsOf}
+use Rattle.sharing.{proofs.Counts.counts-perm, specs.Sharing.countsOf}
 use Rattle.tables.specs.Tables.{streamAt, live}
 use Rattle.store.proofs.Sequences.{Related.Related, Steps.{Issues, together}, Violation.{from-check, share-right, violation}}
 use Rattle.store.specs.{Calls.{Call, Run, modelStep, run, storeStep}, Complete.nextHandle, Model.{Model, freshModel, modelFormat}, Sequences.{Agree, EverySequence, handleOf, isCorrupt, issued, numbersFrom}}
@@ -87,17 +87,6 @@ unfolding modelFormat checkedMasks concluded refuseIf _>>_
 model-formatted m masks readOnly v = rw v
 
 -- that no two conflict does not depend on their order
-eqb-swap : (m n : ℕ) → eqb m n ≡ eqb n m
-eqb-swap m n = go (eqb m n) refl
-  where
-    go : (b : Bool) → eqb m n ≡ b → b ≡ eqb n m
-    go true e = sym (eq-eqb n m (sym (eqb-true m n e)))
-    go false e = sym (ne-eqb n m (λ q. eqb-false m n e (sym q)))
-
-agree-swap : (o q : Open) → opensAgree o q ≡ opensAgree q o
-unfolding opensAgree
-agree-swap o q = rw (eqb-swap (o .stream .0) (q .stream .0), conflicting-sym o q)
-
 no-conflict : {t : Tables} {m : Model} → Related t m → pairs opensAgree (m .entries) ≡ true
 unfolding live openUsed
 no-conflict {t} {m} related =
