@@ -7,7 +7,7 @@
 //   L SLOT PARENT FILE =NAME
 //   S SLOT KIND FILE OPENS READERS WRITERS DELETERS READS WRITES DELETES MARK =NAME     (reads, writes, deletes: those that share these)
 //   O SLOT HANDLE FILE STREAM GRANTED SHARE MARK         (deletes on close)
-//   R FIRST LAST FILE STREAM GRANTED SHARE MARK          the opens of slots FIRST to LAST, each with the handle after its slot's number
+//   R FIRST LAST FILE STREAM GRANTED SHARE MARK          the opens of slots FIRST to LAST, none past the end, each with the handle after its slot's number
 //   N NUMBER                 the volume's next handle
 //   B PLACE BYTE             a byte of the tables, whatever it stands for
 //   T NUMBER                 no change: so many bytes are lent, if there are as many

@@ -2,7 +2,7 @@
 use Rattle.base.{specs.Base.{ℕ, _<_, _≡_, Bool, true, false, not, _&&_, List, _∷_, eqb, leb, map, length, all, any, Permutation, openUsed, bare, zeroOpen, termsOf, Stream, Open, ShareCounts}, proofs.Laws.{refl, sym, _∙_, ap, ap₂, arith, length-map, eq-eqb, eqb-swap, lt-leb, or-neither, all-not, any-same, none-kept-of, perm-any, all-others}}
 use borrow.Author.Tests.{leb-false}
 use Rattle.consistency.{specs.{Good.opensAgree, Consistent.openAt, Test.{opensTest, countsTest, conflictsTest}}, proofs.{Streams.stream-in, Opens.{agree-swap, opens-iff}, Counts.counts-iff}}
-use Rattle.sharing.{specs.Sharing.{conflicting, onStream, anyConflict, othersCheck}, proofs.{PairRule.conflict-sym, Others.others-check}}
+use Rattle.sharing.{specs.{Sharing.{conflicting, onStream, anyConflict}, Others.othersCheck}, proofs.{PairRule.conflict-sym, Others.others-check-one}}
 use Rattle.tables.specs.Tables.{live}
 use Rattle.audit_conflicts.specs.Others.{agreesWithOthers, othersTest}
 
@@ -17,7 +17,7 @@ agree-all o os =
     ap₂ (λ (a b : Bool). a && b) (eqb-swap (o .stream .0) (q .stream .0)) (conflict-sym (termsOf o) (termsOf q))) os)
 
 module _ (ss : List Stream) (next : ℕ) (os : List Open) (good : opensTest (map bare ss) next os ≡ true)
-    (counted : countsTest ss os ≡ true) where
+    (counts-true : countsTest ss os ≡ true) where
   -- a live open names a slot of the streams
   names-slot : (o : Open) (rest : List Open) → Permutation (live os) (o ∷ rest) → o .stream .0 < length ss
   unfolding live any
@@ -40,8 +40,8 @@ module _ (ss : List Stream) (next : ℕ) (os : List Open) (good : opensTest (map
   unfolding onStream
   passes o rest one =
       ap not
-      (ap (λ (c : ShareCounts). othersCheck c o) (counts-iff ss os .0 counted (o .stream) (names-slot o rest one))
-      ∙ others-check (o .stream) one (eq-eqb (o .stream .0) (o .stream .0) refl))
+      (ap (λ (c : ShareCounts). othersCheck c o) (counts-iff ss os .0 counts-true (o .stream) (names-slot o rest one))
+      ∙ others-check-one (o .stream) one (eq-eqb (o .stream .0) (o .stream .0) refl))
       ∙ sym (agree-all o rest)
 
   -- the walk decides whether two conflict

@@ -1,7 +1,7 @@
 -- What the walk over the opens decides: no live open fails the share check from the counts that its stream has, less its own
 -- part. proofs/ shows that this is `conflictsTest` where the counts are true.
 use Rattle.base.specs.Base.{Bool, not, List, all, Stream, Open}
-use Rattle.sharing.specs.Sharing.{othersCheck}
+use Rattle.sharing.specs.Others.{othersCheck}
 use Rattle.tables.specs.Tables.{streamAt, live}
 
 -- an open passes, with the counts of its stream

@@ -4,13 +4,13 @@ use records::sizes::OPEN_SLOTS;
 use records::slots::open_used;
 use records_opens::read_open;
 use records_streams::read_counts;
-use sharing::conflicts_with_others;
+use sharing::others_check;
 ghost use mathlib.Core.Path.{_≡_};
 ghost use lib.ListN.{length};
 ghost use Rattle.layout.specs.Layout.{tablesSize, decode};
 ghost use Rattle.audit_conflicts.specs.Others.{othersTest};
 
-// Each used row against the counts of its stream less its own part, in one pass.
+// Whether each used row passes against the counts of its stream less its own part, in one pass.
 pub fn no_conflicts(b: &[u8]) -> bool
     requires { ⌜ length (now b) ≡ tablesSize ⌝ }
     ensures { λ r.
@@ -20,7 +20,7 @@ pub fn no_conflicts(b: &[u8]) -> bool
     let mut i: usize = 0;
     while i < OPEN_SLOTS {
         let o = read_open(b, i);
-        if open_used(o) && conflicts_with_others(o, read_counts(b, o.stream)) {
+        if open_used(o) && others_check(read_counts(b, o.stream), o) {
             return false;
         }
         i += 1;

@@ -9,7 +9,7 @@ pub use borrow.Author.Tests.{eqb-true, eq-eqb, ne-eqb, not-false, not-true, ltb-
 pub use native.Mathlib.Omega.{arith}
 pub use borrow.Author.Needs.{needs}
 pub use native.Mathlib.Decide.{ℕ-discrete}
-pub use Rattle.lists.proofs.Tests.{none≢some, by-cases, not-both, refuted, not-is, not-isn't, fails-iff, not-iff, and-left, and-right, and-both, and-iff, excluded, excludes, exclude-iff, and-swap, and-exchange, or-cases, or-left, or-right, or-neither, guarded, guard, guard-iff, beq-iff, cond-true, cond-false, cond-cases, one, eqb-iff, leb-iff, eqb-swap}
+pub use Rattle.lists.proofs.Tests.{none≢some, by-cases, not-both, refuted, not-is, not-isn't, fails-iff, not-iff, and-left, and-right, and-both, and-iff, excluded, exclude-iff, and-swap, and-exchange, or-cases, or-left, or-right, or-neither, guarded, guard, guard-iff, beq-iff, cond-true, cond-false, cond-cases, one, eqb-iff, leb-iff, eqb-swap}
 pub use Rattle.lists.proofs.Places.{getD-default, drop-next, drop-back}
 pub use Rattle.lists.proofs.Same.{same-is, same-self, same-iff, empty-is, empty-length, same-tail, same-differs, same-next, same-stops, same-end, same-lengths, same-append}
 pub use Rattle.lists.proofs.All.{all-at, all-of, all-slots, all-fails, all-next, all-end, all-gathered, all-gathered-end, all-map, numbered-at, numbered-of, numbered-stops, numbered-next, numbered-end, numbered-same}

@@ -12,7 +12,7 @@ all-front q (x ∷ xs) ys h =
 
 module _ {A : Type 0} (r : A → A → Bool) (s : (x y : A) → r x y ≡ r y x) (p : A → Bool) (xs : List A)
     (others : (x : A) (rest : List A) → Permutation xs (x ∷ rest) → p x ≡ all (r x) rest) where
-  -- every two of some have passed, and each of those left is tested
+  -- every two of those in front, and each of those left against all the others: every two of all
   passed-left : (zs ys : List A) → Permutation xs (zs ++ ys) → (pairs r zs && all p ys) ≡ pairs r xs
   unfolding all pairs
   passed-left zs [] h = and-true (pairs r zs) ∙ sym (perm-pairs r s h ∙ ap (pairs r) (append-nil zs))

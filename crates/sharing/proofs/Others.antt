@@ -3,7 +3,7 @@
 use Rattle.base.{specs.Base.{_≡_, Bool, true, false, not, List, _∷_, all, any, keep, pairs, Permutation, termsOf, StreamNo, Open, ShareCounts}, proofs.Laws.{sym, _∙_, ap, subst, all-not, any-same, any-keep, keep-yes, perm-keep, all-others}}
 use mathlib.Core.Bool.{Bool·not-not}
 use Rattle.sharing.proofs.{PairRule.{conflict-sym, conflicting-sym}, Counts.{all-counts-perm, all-counts-cons, added-removed, uncounted-nothing}, Check.all-check-right}
-use Rattle.sharing.specs.Sharing.{counted, conflict, conflicting, onStream, anyConflict, countsOfAll, countsOf, shareCheck, withoutOpen, othersCheck}
+use Rattle.sharing.specs.{Sharing.{counted, conflict, conflicting, onStream, anyConflict, countsOfAll, countsOf, shareCheck, withoutOpen}, Others.othersCheck}
 
 -- an uncounted open has no part, and fails nothing
 pub uncounted-passes : (c : ShareCounts) (o : Open) → counted (o .granted) ≡ false
@@ -23,14 +23,14 @@ module _ {os : List Open} {o : Open} {rest : List Open} (one : Permutation os (o
   all-others-check = ap (λ (c : ShareCounts). shareCheck c (termsOf o)) others-counts ∙ all-check-right (termsOf o) rest
 
 -- among the opens on a stream
-pub others-check : (s : StreamNo) {os : List Open} {o : Open} {rest : List Open} → Permutation os (o ∷ rest)
+pub others-check-one : (s : StreamNo) {os : List Open} {o : Open} {rest : List Open} → Permutation os (o ∷ rest)
     → onStream s o ≡ true → othersCheck (countsOf s os) o ≡ anyConflict s (termsOf o) rest
 unfolding countsOf anyConflict
-others-check s {os} {o} {rest} one on =
+others-check-one s {os} {o} {rest} one on =
     all-others-check (subst (Permutation (keep (onStream s) os)) (keep-yes (onStream s) o rest on) (perm-keep (onStream s) one))
     ∙ any-keep (onStream s) (λ q. conflict (termsOf q) (termsOf o)) rest
 
--- two opens agree
+-- two opens don't conflict
 abbrev pub agree : Open → Open → Bool
 agree o q = not (conflicting o q)
 

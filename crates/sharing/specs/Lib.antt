@@ -1,3 +1,4 @@
 pub mod Sharing
 pub mod Saturating
+pub mod Others
 pub mod Evaluate

@@ -108,7 +108,3 @@ withOpen = changedBy _+_
 
 unfoldable pub withoutOpen : Open → ShareCounts → ShareCounts
 withoutOpen = changedBy _-_
-
--- the share check of an open that is among those counted, from the counts less its own part: those of the others
-unfoldable pub othersCheck : ShareCounts → Open → Bool
-othersCheck c o = shareCheck (withoutOpen o c) (termsOf o)

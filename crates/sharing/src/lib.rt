@@ -10,8 +10,9 @@ ghost use Prim.Native.Nat.{_-_};
 ghost use lib.Dec.{eqb, ltb};
 ghost use Rattle.bits.specs.Bits.{has};
 ghost use Rattle.sharing.specs.Sharing.{counted, conflicting, shareCheck};
-ghost use Rattle.sharing.specs.Sharing.{countsOfAll, withoutOpen, othersCheck};
+ghost use Rattle.sharing.specs.Sharing.{countsOfAll, withoutOpen};
 ghost use Rattle.sharing.specs.Saturating.{countLimit, plusUpTo, withOpenUpTo};
+ghost use Rattle.sharing.specs.Others.{othersCheck};
 
 // The access that reads, writes and deletes, and the sharing mode that allows each.
 const READS: u32 = 0x21;
@@ -149,7 +150,7 @@ pub fn without_open(o: Open, c: ShareCounts) -> ShareCounts
 }
 
 // The share check of an open that is among those counted, against the others: the counts less its own part.
-pub fn conflicts_with_others(o: Open, c: ShareCounts) -> bool
+pub fn others_check(c: ShareCounts, o: Open) -> bool
     ensures { λ r. ⌜ r ≡ othersCheck c o ⌝ }
 {
     let others = without_open(o, c);

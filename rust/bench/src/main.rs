@@ -15,7 +15,9 @@ use zanthupra_twin::layout::OPENS;
 
 const FULL: Effort = Effort { repeats: 25, rounds: 40, passes: 9 };
 const QUICK: Effort = Effort { repeats: 5, rounds: 10, passes: 3 };
+/// Steps of the fill in percent: of the plot, and of what is printed alone.
 const STEP: usize = 5;
+const PRINTED_STEP: usize = 25;
 /// The audit's panel of the plot, against the opens of one stream.
 const ONE_STREAM: &str = "audit, all opens on one stream";
 
@@ -27,7 +29,9 @@ struct Arguments {
 /// The volumes of one run, in the order of their tables and lines.
 struct Volumes {
     shown: Vec<(&'static str, Measured)>,
+    /// By their fill in percent, the plot's alone.
     filled: Vec<(usize, Measured)>,
+    /// By the opens on their one stream, in percent of all there can be.
     crowded: Vec<(usize, Audited)>,
 }
 
@@ -44,6 +48,10 @@ fn arguments() -> Option<Arguments> {
     Some(arguments)
 }
 
+fn opens_at(percent: usize) -> usize {
+    OPENS * percent / 100
+}
+
 impl Volumes {
     fn new(plotted: bool) -> Self {
         let volumes = [
@@ -51,17 +59,13 @@ impl Volumes {
             ("three quarters full", Volume::filled(75)),
             ("full", Volume::filled(100)),
         ];
-        let (fills, step) = if plotted { (101, STEP) } else { (0, 25) };
+        let fills = (0..=100).step_by(if plotted { STEP } else { PRINTED_STEP });
+        let filled = |percent| (percent, Measured::new(Volume::filled(percent)));
+        let crowded = |percent| (percent, Audited::new(Volume::crowded(opens_at(percent))));
         Volumes {
             shown: volumes.map(|(what, volume)| (what, Measured::new(volume))).into(),
-            filled: (0..fills)
-                .step_by(STEP)
-                .map(|percent| (percent, Measured::new(Volume::filled(percent))))
-                .collect(),
-            crowded: (0..=100)
-                .step_by(step)
-                .map(|percent| (percent, Audited::new(Volume::crowded(OPENS * percent / 100))))
-                .collect(),
+            filled: if plotted { fills.clone().map(filled).collect() } else { Vec::new() },
+            crowded: fills.map(crowded).collect(),
         }
     }
 
@@ -110,19 +114,22 @@ fn print_table(what: &str, times: &Times) {
     }
 }
 
-/// The audit's growth: what each open adds to the time without opens.
+/// The audit's growth: the last column has what each open adds to our time without opens.
 fn print_crowded(crowded: &[(usize, Audited)]) {
     println!("{ONE_STREAM}");
     println!(
-        "  {:<14} {:>9} {:>9} {:>7} {:>12}",
-        "opens", "ours us", "twin us", "ratio", "ns an open"
+        "  {:<14} {:>9} {:>9} {:>7} {:>13}",
+        "opens", "ours us", "twin us", "ratio", "ours ns each"
     );
     let [without, _] = crowded[0].1.medians();
     for (percent, audited) in crowded {
-        let opens = OPENS * percent / 100;
+        let opens = opens_at(*percent);
         let [ours, twin] = audited.medians();
-        let each = if opens == 0 { 0.0 } else { (ours - without) * 1e3 / opens as f64 };
-        println!("  {opens:<14} {ours:>9.3} {twin:>9.3} {:>7.2} {each:>12.1}", ours / twin);
+        print!("  {opens:<14} {ours:>9.3} {twin:>9.3} {:>7.2}", ours / twin);
+        if opens > 0 {
+            print!(" {:>13.1}", (ours - without) * 1e3 / opens as f64);
+        }
+        println!();
     }
 }
 

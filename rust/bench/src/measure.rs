@@ -37,6 +37,17 @@ struct Side {
 const OURS: Side =
     Side { open: ours::open, close: ours::close, audit: |tables| ours::audit(tables) == 1 };
 const TWIN: Side = Side { open: twin::open, close: twin::close, audit: twin::audit };
+const SIDES: [&Side; 2] = [&OURS, &TWIN];
+
+/// One pass: rounds of one side and of the other take turns, and so does which of them goes
+/// first. The first round warms up and doesn't count.
+fn in_turns(rounds: usize, mut one_round: impl FnMut(usize, bool)) {
+    for round in 0..=rounds {
+        for turn in 0..2 {
+            one_round((round + turn) % 2, round > 0);
+        }
+    }
+}
 
 /// A volume for each side, with the times measured on it so far.
 pub struct Measured {
@@ -60,23 +71,16 @@ impl Measured {
         &self.tables[0]
     }
 
-    /// One pass: rounds of one side and of the other take turns, and so does which of them
-    /// goes first.
     pub fn pass(&mut self, effort: Effort) {
-        for round in 0..=effort.rounds {
-            for turn in 0..2 {
-                let side = (round + turn) % 2;
-                let calls = if side == 0 { &OURS } else { &TWIN };
-                let paths = [&self.path[..], &self.scratch];
-                let times = one_round(calls, &mut self.tables[side], paths, effort.repeats);
-                // The first round warms up.
-                if round > 0 {
-                    for (sample, time) in self.samples[side].iter_mut().zip(times) {
-                        sample.push(time);
-                    }
+        in_turns(effort.rounds, |side, counts| {
+            let paths = [&self.path[..], &self.scratch];
+            let times = one_round(SIDES[side], &mut self.tables[side], paths, effort.repeats);
+            if counts {
+                for (sample, time) in self.samples[side].iter_mut().zip(times) {
+                    sample.push(time);
                 }
             }
-        }
+        });
     }
 
     pub fn medians(&self) -> Times {
@@ -96,22 +100,16 @@ impl Audited {
         Audited { tables, samples: Default::default() }
     }
 
-    /// One pass, in turns as for all calls.
     pub fn pass(&mut self, effort: Effort) {
-        for round in 0..=effort.rounds {
-            for turn in 0..2 {
-                let side = (round + turn) % 2;
-                let audit = if side == 0 { OURS.audit } else { TWIN.audit };
-                let start = Instant::now();
-                for _ in 0..effort.repeats {
-                    assert!(audit(black_box(&self.tables)));
-                }
-                let time = start.elapsed().as_secs_f64() * 1e6 / f64::from(effort.repeats);
-                if round > 0 {
-                    self.samples[side].push(time);
-                }
+        in_turns(effort.rounds, |side, counts| {
+            let start = Instant::now();
+            for _ in 0..effort.repeats {
+                assert!((SIDES[side].audit)(black_box(&self.tables)));
             }
-        }
+            if counts {
+                self.samples[side].push(mean(start.elapsed(), effort.repeats));
+            }
+        });
     }
 
     /// Medians in microseconds of ours and of the twin.
@@ -157,7 +155,12 @@ fn one_round(
         times[4] += start.elapsed();
         assert_eq!(status, Status::Success.code());
     }
-    times.map(|time| time.as_secs_f64() * 1e6 / f64::from(repeats))
+    times.map(|time| mean(time, repeats))
+}
+
+/// The mean time of one call in microseconds.
+fn mean(time: Duration, calls: u32) -> f64 {
+    time.as_secs_f64() * 1e6 / f64::from(calls)
 }
 
 fn median(mut sample: Vec<f64>) -> f64 {

@@ -61,7 +61,7 @@ impl Volume {
             builder.open("a", &request(FILE_READ_DATA, VALID_SHARES));
         }
         assert_eq!(used(&builder.tables), Used { files: 2, links: 1, streams: 2, opens });
-        builder.finish("a", "b").tables
+        builder.tables
     }
 
     /// Files, streams and opens filled to so many percent; at 100 one slot of each is left

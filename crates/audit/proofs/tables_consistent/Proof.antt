@@ -68,6 +68,7 @@ returns-4 c =
     let l = s .before .before in
     let f = l .before .before in
     let b = f .before .before .args .b .now in
+    -- looked for by what it says, whichever call stands before
     let fails : (goodOpens b && trueCounts b) ≡ false = search failed in
     sym
     (rw (
