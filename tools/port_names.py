@@ -14,6 +14,7 @@ import re
 import sys
 
 DECLARED = re.compile(r"^[ ]*(?:(?:pub|abbrev|unfoldable)[ ]+)*((?:[^\s(){};,.:«»=]+[ ])+):[ ]", re.M)
+DEFINED = re.compile(r"^(?:(?:pub|abbrev|unfoldable)[ ]+)+([^\s(){};,.:«»]+)[ ]:[ ]", re.M)
 WORD = re.compile(r"[^\s(){};,.:`\"«»\[\]]+")
 STRING = re.compile(r'b?"(?:[^"\\]|\\.)*"')
 # words of the kit's lists, tests and numbers between which a lemma's dash joins two names
@@ -60,15 +61,15 @@ def declared(text):
     return {name for names in found for name in names}
 
 
-def lemma_names(own, table, plain):
+def lemma_names(own, table, taken, defined):
     """The dashes of lemmas: they stay between two names of definitions."""
     found = {}
     for word in own:
         if "-" not in word or word.startswith("-") or word.endswith("-"):
             continue
         parts = [table.get(p, snake(p) if is_camel(p) else p) for p in word.split("-")]
-        new = ("-" if len(parts) == 2 and plain.issuperset(parts) else "_").join(parts)
-        if new in plain:
+        new = ("-" if len(parts) == 2 and defined.issuperset(parts) else "_").join(parts)
+        if new in taken:
             new += "_lem"
         if new != word:
             found[word] = new
@@ -76,18 +77,22 @@ def lemma_names(own, table, plain):
 
 
 def names():
-    """The words to respell, each with its new spelling, and the names of definitions."""
-    own, words = set(), set()
+    """The words to respell, each with its new spelling; the names in use, and those of definitions."""
+    own, words, defined = set(), set(), set(KIT)
     for path in texts():
         text = read(path)
         words.update(WORD.findall(STRING.sub(" ", text)))
         if path.endswith(".antt") and not is_of_function(path):
             own |= declared(text)
+        if "/specs/" in path:
+            defined |= {m[1] for m in DEFINED.finditer(text)}
     table = {w: snake(w) for w in words if is_camel(w)}
-    plain = {table.get(w, w) for w in own if "-" not in w} | set(table.values()) | KIT
-    table.update(lemma_names(own, table, plain))
+    taken = {table.get(w, w) for w in own if "-" not in w} | set(table.values())
+    plain = (taken, {table.get(w, w) for w in defined})
+    table.update(lemma_names(own, table, *plain))
     table.update(ALIASES)
-    table.update(LEMMAS)
+    if any(is_camel(w) for w in words):
+        table.update(LEMMAS)
     return table, plain
 
 
@@ -131,7 +136,7 @@ def main():
         before = read(path)
         everywhere = table
         if is_of_function(path):
-            table = {**everywhere, **lemma_names(declared(spec_names(path, before)) - set(everywhere), everywhere, plain)}
+            table = {**everywhere, **lemma_names(declared(spec_names(path, before)) - set(everywhere), everywhere, *plain)}
         if path.endswith(".antt"):
             for new, old in fallen_together(spec_names(path, before), table).items():
                 met.setdefault((new, tuple(sorted(old))), []).append(path)

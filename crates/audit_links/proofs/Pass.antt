@@ -1,10 +1,10 @@
 -- The one pass over the links: each from place i on passes its test, has its key, and is noted by its file's number. And
 -- what the test of the whole table is at the end.
-use Rattle.base.{specs.Base.{ℕ, ◌+◌, ◌-◌, ◌≤◌, ◌<◌, ◌≡◌, true, false, ◌&&◌, List, length, get_or, set, replicate, all, all_from, keep, pairs, file_slots, link_slots, link_used, zero_link, File, Link}, proofs.Laws.{refl, sym, ap, ◌∙◌, arith, eq-eqb, numbered-same, count_room, count-ends, Noted, Scanned, scan_none, scan_fails, scan_back, scan_end}}
+use Rattle.base.{specs.Base.{ℕ, ◌+◌, ◌-◌, ◌≤◌, ◌<◌, ◌≡◌, true, false, ◌&&◌, List, length, get_or, set, replicate, all, all_from, keep, pairs, file_slots, link_slots, link_used, zero_link, File, Link}, proofs.Laws.{refl, sym, ap, ◌∙◌, arith, eq-eqb, numbered_same, count_room, count_ends, Noted, Scanned, scan_none, scan_fails, scan_back, scan_end}}
 use Rattle.consistency.specs.{Slots.slots_test, Good.link_names_differ, Test.{links_of_file, links_test}}
 use Rattle.distinct.specs.Keys.{is_key, differ}
-use Rattle.name_keys.proofs.Tell.{key_of, names-told}
-use Rattle.audit_links.proofs.{Links.link_test, Linked.linked-same, Noted.{file_of, parent_in, LinksNoted, noted-none, noted-free, noted-used}}
+use Rattle.name_keys.proofs.Tell.{key_of, names_told}
+use Rattle.audit_links.proofs.{Links.link_test, Linked.linked_same, Noted.{file_of, parent_in, LinksNoted, noted_none, noted_free, noted_used}}
 use Rattle.audit_links.specs.Linked.{file_linked}
 
 -- the key of a link's name in its directory
@@ -22,7 +22,7 @@ pass_none {fs} {ls} {up} size long own =
     record {
       size = size;
       scanned = scan_none (link_test fs) link_key ls (replicate link_slots 0) link_slots refl size;
-      noted = noted-none ls up link_slots (omega arith) long own;
+      noted = noted_none ls up link_slots (omega arith) long own;
     }
 
 module _ {fs : List File} {ls : List Link} {keys counts up : List ℕ} {i : ℕ} (passed : Passed fs ls keys counts up i) where
@@ -43,16 +43,16 @@ module _ {fs : List File} {ls : List Link} {keys counts up : List ℕ} {i : ℕ}
         links_test_lem ∙ rw (scan_fails (link_test fs) link_key ls keys i zero_link positive passed.scanned (ap (link_test fs) (sym is) ∙ e))
 
     module _ (test : link_test fs l ≡ true) {k : ℕ} (key : k ≡ link_key l) where
-      scanned-more : Scanned (link_test fs) link_key ls (set keys (i - 1) k) (i - 1)
-      scanned-more =
+      scanned_more : Scanned (link_test fs) link_key ls (set keys (i - 1) k) (i - 1)
+      scanned_more =
           scan_back (link_test fs) link_key ls keys i zero_link positive passed.scanned (ap (link_test fs) (sym is) ∙ test) (key ∙ ap link_key is)
 
       pub pass_free : link_used l ≡ false → Passed fs ls (set keys (i - 1) k) counts up (i - 1)
       pass_free u =
           record {
             size = passed.size;
-            scanned = scanned-more;
-            noted = noted-free ls i positive passed.scanned.place counts up passed.noted (ap link_used (sym is) ∙ u);
+            scanned = scanned_more;
+            noted = noted_free ls i positive passed.scanned.place counts up passed.noted (ap link_used (sym is) ∙ u);
           }
 
       pub pass_used : link_used l ≡ true → file_of l < file_slots
@@ -60,10 +60,10 @@ module _ {fs : List File} {ls : List Link} {keys counts up : List ℕ} {i : ℕ}
       pass_used u b =
           record {
             size = passed.size;
-            scanned = scanned-more;
+            scanned = scanned_more;
             noted =
                 rw is
-                (noted-used ls i positive passed.scanned.place counts up passed.noted (ap link_used (sym is) ∙ u) (rw (← is) b));
+                (noted_used ls i positive passed.scanned.place counts up passed.noted (ap link_used (sym is) ∙ u) (rw (← is) b));
           }
 
   -- all are passed: what the names and the files say is what is asked
@@ -74,7 +74,7 @@ module _ {fs : List File} {ls : List Link} {keys counts up : List ℕ} {i : ℕ}
     pub pass_names : pairs differ (keep is_key keys) ≡ true → pairs link_names_differ (keep link_used ls) ≡ true
     unfolding link_names_differ
     pass_names h =
-        names-told link_used (λ (l : Link). l.parent.0) (λ l. l.name) zero_link ls
+        names_told link_used (λ (l : Link). l.parent.0) (λ l. l.name) zero_link ls
         (rw (← (scan_end (link_test fs) link_key ls end passed.scanned).1) h)
 
     pub pass_alike : pairs link_names_differ (keep link_used ls) ≡ false → links_test fs ls ≡ false
@@ -87,7 +87,7 @@ module _ {fs : List File} {ls : List Link} {keys counts up : List ℕ} {i : ℕ}
         links_test_lem
         ∙ rw (all_pass, h)
         (sym
-        (numbered-same (file_linked counts up) (links_of_file (keep link_used ls)) 0 fs
+        (numbered_same (file_linked counts up) (links_of_file (keep link_used ls)) 0 fs
         (λ n b.
-        linked-same ls counts up noted.parents_size (λ m c. count-ends _ file_slots ls noted.counted m c end) (rw end at noted.parents)
+        linked_same ls counts up noted.parents_size (λ m c. count_ends _ file_slots ls noted.counted m c end) (rw end at noted.parents)
         (λ m c. omega (arith, parent_in fs ls all_pass (record { 0 = m }) (omega arith))) n (omega arith))))

@@ -1,7 +1,7 @@
 -- The opens counted in one pass: the counts of every stream, by its number, of the rows from a place on.
-use Rattle.base.{specs.Base.{ℕ, ◌-◌, ◌≤◌, ◌<◌, ◌≡◌, Bool, true, false, ◌⊎◌, List, ◌∷◌, length, get_or, set, drop, replicate, all_from, count, keep, stream_slots, open_slots, open_used, zero_counts, zero_open, Open, ShareCounts, StreamNo, Stream}, proofs.Laws.{refl, sym, ◌∙◌, ap, arith, length-set, length-drop, drop_of_length-le, get_or-replicate, eq-eqb, by_cases, numbered-same, count_bound, keep_yes, keep_no, length-keep, Noted, keyed, back-set, back-skip}}
+use Rattle.base.{specs.Base.{ℕ, ◌-◌, ◌≤◌, ◌<◌, ◌≡◌, Bool, true, false, ◌⊎◌, List, ◌∷◌, length, get_or, set, drop, replicate, all_from, count, keep, stream_slots, open_slots, open_used, zero_counts, zero_open, Open, ShareCounts, StreamNo, Stream}, proofs.Laws.{refl, sym, ◌∙◌, ap, arith, length-set, length-drop, drop_of_length-le, get_or-replicate, eq-eqb, by_cases, numbered_same, count_bound, keep_yes, keep_no, length-keep, Noted, keyed, back_set, back_skip}}
 use Rattle.consistency.specs.Test.{same_counts, counts_test}
-use Rattle.sharing.{specs.{Sharing.{on_stream, counts_of, counts_of_all}, Saturating.{count_limit, with_open_up_to}}, proofs.{Counts.{counts_cons, counts-skip}, UpTo.up_to_counts}}
+use Rattle.sharing.{specs.{Sharing.{on_stream, counts_of, counts_of_all}, Saturating.{count_limit, with_open_up_to}}, proofs.{Counts.{counts_cons, counts_skip}, UpTo.up_to_counts}}
 use Rattle.tables.specs.Tables.{live}
 
 -- the stream with a number, that of an open, and what rows say of it: the counts of its live opens
@@ -15,29 +15,29 @@ abbrev pub counts_on : ℕ → List Open → ShareCounts
 counts_on n rows = counts_of (stream n) (live rows)
 
 -- from the end on there is none
-pub none-counted : (size : ℕ) (rows : List Open) (i : ℕ) → length rows ≤ i
+pub none_counted : (size : ℕ) (rows : List Open) (i : ℕ) → length rows ≤ i
     → Noted zero_counts size (replicate size zero_counts) (λ n. counts_on n (drop i rows))
 unfolding live keep counts_of counts_of_all count
-none-counted size rows i h n b =
+none_counted size rows i h n b =
     get_or-replicate size n zero_counts zero_counts b ∙ sym (ap (counts_on n) (drop_of_length-le rows h))
 
 -- a used row is one open more of the stream that it names
-pub counts-own : (limit : ℕ) (o : Open) (os : List Open) → open_used o ≡ true → length os < limit
+pub counts_own : (limit : ℕ) (o : Open) (os : List Open) → open_used o ≡ true → length os < limit
     → counts_on (stream_no o) (o ∷ os) ≡ with_open_up_to limit o (counts_on (stream_no o) os)
 unfolding live on_stream
-counts-own limit o os u h =
+counts_own limit o os u h =
     ap (counts_of o.stream) (keep_yes open_used o os u)
     ∙ counts_cons o.stream o (keep open_used os) (eq-eqb (stream_no o) (stream_no o) refl)
     ∙ sym (up_to_counts limit (length os) h o o.stream (keep open_used os)
     (omega (arith, length-keep open_used os, count_bound open_used os)))
 
 -- and of no other
-pub counts-other : (n : ℕ) (o : Open) (os : List Open) → keyed stream_no open_used n o ≡ false
+pub counts_other : (n : ℕ) (o : Open) (os : List Open) → keyed stream_no open_used n o ≡ false
     → counts_on n (o ∷ os) ≡ counts_on n os
 unfolding live on_stream
-counts-other n o os e =
+counts_other n o os e =
     by_cases (open_used o)
-    (λ u. ap (counts_of (stream n)) (keep_yes open_used o os u) ∙ counts-skip (stream n) o (keep open_used os) (rw u at e))
+    (λ u. ap (counts_of (stream n)) (keep_yes open_used o os u) ∙ counts_skip (stream n) o (keep open_used os) (rw u at e))
     (λ u. ap (counts_of (stream n)) (keep_no open_used o os u))
 
 -- the pass over the rows from the last one: the counts are those of the rows passed
@@ -49,7 +49,7 @@ pub record CountsPass (rows : List Open) (counts : List ShareCounts) (i : ℕ) :
 module _ (rows : List Open) (long : length rows ≡ open_slots) where
   pub counting_begins : CountsPass rows (replicate stream_slots zero_counts) open_slots
   counting_begins =
-      record { place = omega arith; size = refl; counted = none-counted stream_slots rows open_slots (omega arith) }
+      record { place = omega arith; size = refl; counted = none_counted stream_slots rows open_slots (omega arith) }
 
   -- one row more, as it was read: it is counted on its stream, or there is nothing to count
   module _ {counts : List ShareCounts} (i : ℕ) (positive : 0 < i) (pass : CountsPass rows counts i)
@@ -63,12 +63,12 @@ module _ (rows : List Open) (long : length rows ≡ open_slots) where
           size = length-set counts (stream_no o) after ∙ pass.size;
           counted =
               rw read
-              (back-set stream_no open_used counts_on counts-other rows i zero_open positive (omega (arith, pass.place)) zero_counts
+              (back_set stream_no open_used counts_on counts_other rows i zero_open positive (omega (arith, pass.place)) zero_counts
               stream_slots counts pass.counted pass.size (rw read at below) after
               (rw read at
               (e
               ∙ ap (with_open_up_to count_limit o) (pass.counted (stream_no o) below)
-              ∙ sym (counts-own count_limit o (drop i rows) used (omega (arith, length-drop i rows))))));
+              ∙ sym (counts_own count_limit o (drop i rows) used (omega (arith, length-drop i rows))))));
         }
 
     pub counting_skips : (open_used o ≡ false) ⊎ (stream_slots ≤ stream_no o) → CountsPass rows counts (i - 1)
@@ -77,7 +77,7 @@ module _ (rows : List Open) (long : length rows ≡ open_slots) where
           place = omega (arith, pass.place);
           size = pass.size;
           counted =
-              back-skip stream_no open_used counts_on counts-other rows i zero_open positive (omega (arith, pass.place)) zero_counts
+              back_skip stream_no open_used counts_on counts_other rows i zero_open positive (omega (arith, pass.place)) zero_counts
               stream_slots counts pass.counted (rw read at w);
         }
 
@@ -89,9 +89,9 @@ module _ (rows : List Open) (long : length rows ≡ open_slots) where
 abbrev pub found_test : List ShareCounts → ℕ → Stream → Bool
 found_test cs n s = same_counts s.counts (get_or cs n zero_counts)
 
-pub counts-found : (ss : List Stream) (os : List Open) (size : ℕ) (cs : List ShareCounts) → length ss ≡ size
+pub counts_found : (ss : List Stream) (os : List Open) (size : ℕ) (cs : List ShareCounts) → length ss ≡ size
     → ((n : ℕ) → n < size → get_or cs n zero_counts ≡ counts_of (stream n) (live os)) → counts_test ss os ≡ all_from (found_test cs) 0 ss
 unfolding counts_test
-counts-found ss os size cs l h =
-    numbered-same (λ n s. same_counts s.counts (counts_of (stream n) (live os))) (found_test cs) 0 ss
+counts_found ss os size cs l h =
+    numbered_same (λ n s. same_counts s.counts (counts_of (stream n) (live os))) (found_test cs) 0 ss
     (λ n b s. ap (same_counts s.counts) (sym (h n (omega arith))))

@@ -1,11 +1,11 @@
 -- The streams that bytes stand for, as the code reads them, and a slot against a stream.
 use Rattle.base.{specs.Base.{ℕ, ◌≡◌, true, false, not, ◌&&◌, List, eqb, length, get_or, all, keep, same, is_used, is_directory, stream_slots, BareStream, bare_used, bare_at, bare, namespace, FileType, FileNo, Stream, StreamNo}, proofs.Laws.{refl, sym, ◌∙◌, ap, length-map, eq-eqb, ne_eqb, or_right, all_keep}}
 use mathlib.Core.Bool.{beq}
-use Rattle.layout.{specs.Layout.decode, proofs.Lengths.streams-count}
+use Rattle.layout.{specs.Layout.decode, proofs.Lengths.streams_count}
 use Rattle.tables.specs.Tables.{stream_at}
 use Rattle.stored_names.{specs.StoredNames.units, proofs.StoredUnits.units_empty}
 use Rattle.name_tests.specs.NameTests.{good_stream_name}
-use Rattle.consistency.{specs.Good.{good_stream, stream_names_differ}, proofs.Derived.bare-at}
+use Rattle.consistency.{specs.Good.{good_stream, stream_names_differ}, proofs.Derived.bare_at_lem}
 use Rattle.audit_streams.specs.Streams.{free_or_differs}
 
 -- the streams, without their counts
@@ -13,18 +13,18 @@ module _ (bs : List ℕ) where
   abbrev pub streams : List BareStream
   streams = (namespace (decode bs).volume).streams
 
-  pub streams-long : length streams ≡ stream_slots
+  pub streams_long : length streams ≡ stream_slots
   unfolding namespace
-  streams-long = length-map (decode bs).volume.streams bare ∙ streams-count bs
+  streams_long = length-map (decode bs).volume.streams bare ∙ streams_count bs
 
   -- a stream that was read
-  pub stream-read : (n : StreamNo) {s : Stream} → s ≡ stream_at (decode bs).volume.streams n → bare s ≡ bare_at streams n
+  pub stream_read : (n : StreamNo) {s : Stream} → s ≡ stream_at (decode bs).volume.streams n → bare s ≡ bare_at streams n
   unfolding namespace
-  stream-read n e = ap bare e ∙ sym (bare-at (decode bs).volume.streams n)
+  stream_read n e = ap bare e ∙ sym (bare_at_lem (decode bs).volume.streams n)
 
-  pub file-read : (n : StreamNo) {f : FileNo} → f ≡ (stream_at (decode bs).volume.streams n).file → f.0 ≡ (bare_at streams n).file.0
+  pub file_read : (n : StreamNo) {f : FileNo} → f ≡ (stream_at (decode bs).volume.streams n).file → f.0 ≡ (bare_at streams n).file.0
   unfolding namespace bare
-  file-read n e = ap (λ (f : FileNo). f.0) (e ∙ sym (ap (λ (q : BareStream). q.file) (bare-at (decode bs).volume.streams n)))
+  file_read n e = ap (λ (f : FileNo). f.0) (e ∙ sym (ap (λ (q : BareStream). q.file) (bare_at_lem (decode bs).volume.streams n)))
 
 -- a used one: its name, its file, its type and its mark
 pub stream-parts : (of : FileType) (s : BareStream)
@@ -38,9 +38,9 @@ stream-parts of s = rw (good_stream, units_empty s.name)
 
 -- a slot against a stream
 module _ (s q : BareStream) where
-  pub other-file : (q.file.0 ≡ s.file.0 → ⊥) → free_or_differs s q ≡ true
+  pub other_file : (q.file.0 ≡ s.file.0 → ⊥) → free_or_differs s q ≡ true
   unfolding free_or_differs stream_names_differ
-  other-file n = or_right (not (bare_used q)) (rw (ne_eqb s.file.0 q.file.0 (λ e. n (sym e))))
+  other_file n = or_right (not (bare_used q)) (rw (ne_eqb s.file.0 q.file.0 (λ e. n (sym e))))
 
   pub free_differs : bare_used q ≡ false → free_or_differs s q ≡ true
   unfolding free_or_differs
@@ -50,6 +50,6 @@ module _ (s q : BareStream) where
   unfolding free_or_differs stream_names_differ
   same-file e u = rw (free_or_differs, u, stream_names_differ, eq-eqb s.file.0 q.file.0 (sym e))
 
-pub slots-differ : (s : BareStream) (qs : List BareStream) → all (stream_names_differ s) (keep bare_used qs) ≡ all (free_or_differs s) qs
+pub slots_differ : (s : BareStream) (qs : List BareStream) → all (stream_names_differ s) (keep bare_used qs) ≡ all (free_or_differs s) qs
 unfolding free_or_differs
-slots-differ s qs = all_keep bare_used (stream_names_differ s) qs
+slots_differ s qs = all_keep bare_used (stream_names_differ s) qs

@@ -102,8 +102,8 @@ has_comm a m = ap (λ (x : ℕ). not (eqb x 0)) (and_comm a m)
 pub within_self : (m : ℕ) → within m m ≡ true
 within_self m = (within_iff m m).1 (and_self m)
 
-pub within-zero : (m : ℕ) → within 0 m ≡ true
-within-zero m = (within_iff 0 m).1 refl
+pub within_zero : (m : ℕ) → within 0 m ≡ true
+within_zero m = (within_iff 0 m).1 refl
 
 -- where m and n are numerals, the second condition holds by refl
 pub within_mono : (a m n : ℕ) → within a m ≡ true → bit_and m n ≡ m → within a n ≡ true
@@ -156,9 +156,9 @@ has_subset a b m h e = ap (λ (x : ℕ). has x m) (sym ((within_iff a b).0 h)) �
 
 -- ---- a difference
 
-pub without-clears : (a k : ℕ) → has (without a k) k ≡ false
+pub without_clears : (a k : ℕ) → has (without a k) k ≡ false
 unfolding without
-without-clears a k = (has_iff_false (a - bit_and a k) k).1 (less_and a k)
+without_clears a k = (has_iff_false (a - bit_and a k) k).1 (less_and a k)
 
 pub within-without : (a k : ℕ) → within (without a k) a ≡ true
 unfolding without
@@ -167,6 +167,6 @@ within-without a k = ap (within (a - bit_and a k)) (sym (less_or a k)) ∙ withi
 pub within_less : (a m k : ℕ) → within a m ≡ true → within (without a k) m ≡ true
 within_less a m k h = within_trans (without a k) a m (within-without a k) h
 
-pub without-none : (a k : ℕ) → has a k ≡ false → without a k ≡ a
+pub without_none : (a k : ℕ) → has a k ≡ false → without a k ≡ a
 unfolding without
-without-none a k e = omega (arith, (has_iff_false a k).0 e)
+without_none a k e = omega (arith, (has_iff_false a k).0 e)

@@ -5,9 +5,9 @@ use Rattle.base.{specs.Base.{ℕ, ◌+◌, ◌≤◌, ◌≡◌, List, ◌++◌,
 use Rattle.little_endian.specs.Writes.{Wrote}
 
 -- a part that was lent comes back written over
-pub part-written : (l xs : List ℕ) {ys : List ℕ} (at k : ℕ) → ys ≡ xs → length xs ≡ k → at + k ≤ length l
+pub part_written : (l xs : List ℕ) {ys : List ℕ} (at k : ℕ) → ys ≡ xs → length xs ≡ k → at + k ≤ length l
     → Wrote l at xs (take at l ++ (ys ++ drop k (drop at l)))
-part-written l xs at k same e h =
+part_written l xs at k same e h =
     rw same
     (record {
       is = rw (drop-drop, ← e, ← append_assoc (take at l) xs (drop (at + length xs) l)) (sym (sets-eq xs l at (omega arith)));

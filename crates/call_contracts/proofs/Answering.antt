@@ -3,7 +3,7 @@ use Rattle.base.{specs.Base.{ℕ, ◌≡◌, true, Bool, List, Tables, Step, Che
 use Rattle.audit.specs.Sound.{sound_bytes}
 use Rattle.layout.specs.Layout.{decode}
 use Rattle.store.specs.{Complete.{Decision, decide}, Close.decide_close, Store.{store_view, opened, closed, volume_marked, store_open, store_close, store_set_read_only}}
-use Rattle.call_contracts.proofs.Performing.{sound-asks}
+use Rattle.call_contracts.proofs.Performing.{sound_asks}
 
 -- what each call does on consistent tables
 abbrev pub opening : Request → List ℕ → Tables → Checked (Step Tables)
@@ -23,23 +23,23 @@ module _ (bs : List ℕ) (sound : sound_bytes bs ≡ true) where
     pub open_refuses : (s : Status) → refuse s ≡ decide (store_view t) (namespace t.volume) r units
         → store_open t r units ≡ record { reply = refused_reply s; state = t }
     unfolding store_open concluded ◌>>=◌
-    open_refuses s e = sound-asks (opening r units) bs sound ∙ rw (← e)
+    open_refuses s e = sound_asks (opening r units) bs sound ∙ rw (← e)
 
     pub open_accepts : (d : Decision) → passed d ≡ decide (store_view t) (namespace t.volume) r units
         → store_open t r units ≡ opened t d
     unfolding store_open concluded ◌>>=◌
-    open_accepts d e = sound-asks (opening r units) bs sound ∙ rw (← e)
+    open_accepts d e = sound_asks (opening r units) bs sound ∙ rw (← e)
 
   module _ (h : Handle) where
-    pub close-refuses : (s : Status) → decide_close (store_view t) h ≡ refuse s
+    pub close_refuses : (s : Status) → decide_close (store_view t) h ≡ refuse s
         → store_close t h ≡ record { reply = refused_reply s; state = t }
     unfolding store_close concluded ◌>>=◌
-    close-refuses s e = sound-asks (closing h) bs sound ∙ rw e
+    close_refuses s e = sound_asks (closing h) bs sound ∙ rw e
 
-    pub close-accepts : (o : Open) → decide_close (store_view t) h ≡ passed o → store_close t h ≡ closed t o
+    pub close_accepts : (o : Open) → decide_close (store_view t) h ≡ passed o → store_close t h ≡ closed t o
     unfolding store_close concluded ◌>>=◌
-    close-accepts o e = sound-asks (closing h) bs sound ∙ rw e
+    close_accepts o e = sound_asks (closing h) bs sound ∙ rw e
 
   pub switch_sets : (b : Bool) → store_set_read_only t b ≡ done (record { volume = volume_marked b t.volume; opens = t.opens })
   unfolding store_set_read_only concluded
-  switch_sets b = sound-asks (setting b) bs sound
+  switch_sets b = sound_asks (setting b) bs sound

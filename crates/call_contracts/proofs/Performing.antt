@@ -2,7 +2,7 @@
 use Rattle.base.{specs.Base.{ℕ, ◌≡◌, true, false, not, List, length, Tables, Step, Checked, refuse, ◌>>◌, refuse_if, concluded, refused_reply, Answers, seen, Status, FileCorruptError, Refused, Answer}, proofs.Laws.{eqb-true, refl, sym, ◌∙◌, ap, and_left, and_right, by_cases, not_both}}
 use Rattle.audit.specs.Sound.{sound_bytes}
 use Rattle.consistency.specs.Test.{consistent}
-use Rattle.layout.{specs.{Layout.{tables_size, decode, stands_for_tables, Changed}, Calls.on_bytes}, proofs.Calls.{no_tables, on-tables, bytes_left, state-written}}
+use Rattle.layout.{specs.{Layout.{tables_size, decode, stands_for_tables, Changed}, Calls.on_bytes}, proofs.Calls.{no_tables, on-tables, bytes_left, state_written}}
 use Rattle.little_endian.specs.LittleEndian.{Bytes}
 use Rattle.store.specs.Store.{when_consistent}
 use Rattle.call_contracts.specs.Performs.{StandFor, Performs}
@@ -42,15 +42,15 @@ module _ (call : Tables → Step Tables) (bs : List ℕ) (bytes : Bytes bs) wher
           answers =
               record {
                 reply = rw (on-tables call bs stands) e;
-                state = state-written call bs stands m b c;
+                state = state_written call bs stands m b c;
               };
           tables = λ _. record { stands = c.stays stands; is = c.is };
         }
 
 -- sound bytes are as many as the tables have
-pub sound-long : (bs : List ℕ) → sound_bytes bs ≡ true → length bs ≡ tables_size
+pub sound_long : (bs : List ℕ) → sound_bytes bs ≡ true → length bs ≡ tables_size
 unfolding sound_bytes stands_for_tables
-sound-long bs e = eqb-true _ _ (and_left _ _ (and_left (stands_for_tables bs) _ e))
+sound_long bs e = eqb-true _ _ (and_left _ _ (and_left (stands_for_tables bs) _ e))
 
 -- a call that asks for consistency first
 module _ (answer : Tables → Checked (Step Tables)) (bs : List ℕ) where
@@ -64,10 +64,10 @@ module _ (answer : Tables → Checked (Step Tables)) (bs : List ℕ) where
       (λ s. performs_refusal asking bs b s FileCorruptError (rw (rw s at e)))
       (λ s. performs_none asking bs b s)
 
-  pub sound-stands : sound_bytes bs ≡ true → stands_for_tables bs ≡ true
+  pub sound_stands : sound_bytes bs ≡ true → stands_for_tables bs ≡ true
   unfolding sound_bytes
-  sound-stands e = and_left (stands_for_tables bs) _ e
+  sound_stands e = and_left (stands_for_tables bs) _ e
 
-  pub sound-asks : sound_bytes bs ≡ true → asking (decode bs) ≡ concluded (decode bs) (answer (decode bs))
+  pub sound_asks : sound_bytes bs ≡ true → asking (decode bs) ≡ concluded (decode bs) (answer (decode bs))
   unfolding sound_bytes when_consistent concluded refuse_if ◌>>◌
-  sound-asks e = rw (and_right (stands_for_tables bs) _ e)
+  sound_asks e = rw (and_right (stands_for_tables bs) _ e)

@@ -2,7 +2,7 @@
 -- through the calls as in the store's theorem.
 use Rattle.base.{specs.Base.{ℕ, ◌<◌, ◌≡◌, Bool, true, List, ◌∷◌, map, length, eqb, Seen, seen, status_number, Answers, Answer, Tables, Step, Status, FileCorruptError, InvalidParameter, Done, refused_reply, Handle, Request}, proofs.Laws.{refl, sym, ◌∙◌, ap, ap₂, arith, eqb-true, eqb-false, by_cases}}
 use Rattle.consistency.specs.Relations.{valid_masks}
-use Rattle.format.{specs.{Format.format, Bytes.format_bytes}, proofs.{Bytes.{other_length, invalid-masks, formatted}, Decoded.{same-reply, decoded-tables, success-stands}}}
+use Rattle.format.{specs.{Format.format, Bytes.format_bytes}, proofs.{Bytes.{other_length, invalid_masks, formatted}, Decoded.{same_reply_lem, decoded_tables, success_stands}}}
 use Rattle.layout.{specs.Layout.{tables_size, decode, stands_for_tables}, proofs.Calls.on-tables}
 use Rattle.reply_numbers.specs.Numbers.{answer_seen}
 use Rattle.store.{specs.{Store.{store_open, store_close, store_set_read_only}, Model.{Model, model_format}, Calls.{Call, opens, closes, sets_read_only, Run, run, store_step, model_step}, Sequences.Agree}, proofs.Sequences.{Theorem.every_sequence, Related.Related}}
@@ -72,27 +72,27 @@ module _ (bytes masks : List ℕ) (read_only : Bool) (success : (seen (format_by
       (λ e.
       absurd
       (not_refused InvalidParameter (omega arith)
-      (ap (λ (s : Step (List ℕ)). s.reply) (invalid-masks bytes masks read_only right_length e))))
+      (ap (λ (s : Step (List ℕ)). s.reply) (invalid_masks bytes masks read_only right_length e))))
 
   -- what format left stands for what it leaves of the tables
   pub format-left : StandFor (format_bytes bytes masks read_only).state (format (decode bytes) masks read_only).state
   format-left =
       record {
-        stands = success-stands bytes masks read_only right_length valid;
-        is = decoded-tables bytes masks read_only right_length;
+        stands = success_stands bytes masks read_only right_length valid;
+        is = decoded_tables bytes masks read_only right_length;
       }
 
   format-done : (format (decode bytes) masks read_only).reply.outcome ≡ Done
-  format-done = rw (← same-reply bytes masks read_only right_length, formatted bytes masks read_only right_length valid)
+  format-done = rw (← same_reply_lem bytes masks read_only right_length, formatted bytes masks read_only right_length valid)
 
   -- every sequence of calls on the tables that it leaves
-  pub agree-from : (m : Model) (calls : List Call)
+  pub agree_from : (m : Model) (calls : List Call)
       → Agree (run store_step (format (decode bytes) masks read_only).state calls) (run model_step (model_format m masks read_only).state calls)
-  agree-from m calls = every_sequence (decode bytes) m masks read_only format-done calls
+  agree_from m calls = every_sequence (decode bytes) m masks read_only format-done calls
 
 -- tables and model that agree are related
-pub agree-related : {s : Run Tables} {r : Run Model} → Agree s r → Related s.state r.state
-agree-related a =
+pub agree_related : {s : Run Tables} {r : Run Model} → Agree s r → Related s.state r.state
+agree_related a =
     record {
       consistent_tables = a.tables_consistent;
       opens_are_entries = a.opens_are_entries;
@@ -101,16 +101,16 @@ agree-related a =
     }
 
 -- an answer that is done is seen as success
-done-success : (a : Answer) → a.outcome ≡ Done → (answer_seen a).status ≡ 0
+done_success : (a : Answer) → a.outcome ≡ Done → (answer_seen a).status ≡ 0
 unfolding seen
-done-success a e = rw e
+done_success a e = rw e
 
 pub every_sequence_of_calls : EverySequenceOfCalls
 every_sequence_of_calls bytes m masks read_only a left formats done calls answers after made =
     let success : (seen (format_bytes bytes masks read_only).reply).status ≡ 0 =
-    ap (λ (x : Seen). x.status) (sym formats.reply) ∙ done-success a done in
+    ap (λ (x : Seen). x.status) (sym formats.reply) ∙ done_success a done in
     let f = rw (← formats.state) at (format-left bytes masks read_only success) in
-    let agree = agree-from bytes masks read_only success m calls in
+    let agree = agree_from bytes masks read_only success m calls in
     let ran = rw f.is at (follows made f.stands) in
     record {
       same_answers = ran.same_answers ∙ ap (map seen) agree.same_replies;

@@ -13,11 +13,11 @@ module _ (P : ℕ → Type 0) where
   take_places z (suc n) (b ∷ bs) h zero = h 0
   take_places z (suc n) (b ∷ bs) h (suc i) = take_places z n bs (λ k. h (suc k)) i
 
-  pub drop-places : (n : ℕ) (bs : List ℕ) → ((i : ℕ) → P (get_or bs i 0)) → (i : ℕ) → P (get_or (drop n bs) i 0)
-  drop-places n bs h i = rw get_or-drop (h (n + i))
+  pub drop_places : (n : ℕ) (bs : List ℕ) → ((i : ℕ) → P (get_or bs i 0)) → (i : ℕ) → P (get_or (drop n bs) i 0)
+  drop_places n bs h i = rw get_or-drop (h (n + i))
 
-pub take-bytes : (n : ℕ) (bs : List ℕ) → Bytes bs → Bytes (take n bs)
-take-bytes = take_places (λ b. b < 256) (omega arith)
+pub take_bytes : (n : ℕ) (bs : List ℕ) → Bytes bs → Bytes (take n bs)
+take_bytes = take_places (λ b. b < 256) (omega arith)
 
-pub drop-bytes : (n : ℕ) (bs : List ℕ) → Bytes bs → Bytes (drop n bs)
-drop-bytes = drop-places (λ b. b < 256)
+pub drop_bytes : (n : ℕ) (bs : List ℕ) → Bytes bs → Bytes (drop n bs)
+drop_bytes = drop_places (λ b. b < 256)

@@ -85,23 +85,23 @@ module _ {A B D : Type 0} {d : Codec D} {at : ℕ} where
       }
 
 module _ {A : Type 0} (c : Codec A) (z : A) where
-  slot-reads : (n k : ℕ) → k < n → (bs : List ℕ) → get_or (decode_row c n bs) k z ≡ c.decode (part bs (c.size * k) c.size)
+  slot_reads : (n k : ℕ) → k < n → (bs : List ℕ) → get_or (decode_row c n bs) k z ≡ c.decode (part bs (c.size * k) c.size)
   unfolding decode_row
-  slot-reads zero k h bs = absurd (let z : ⊥ = omega arith in z)
-  slot-reads (suc n) zero h bs = rw mul-zero
-  slot-reads (suc n) (suc k) h bs =
+  slot_reads zero k h bs = absurd (let z : ⊥ = omega arith in z)
+  slot_reads (suc n) zero h bs = rw mul-zero
+  slot_reads (suc n) (suc k) h bs =
       let e : c.size * suc k ≡ c.size + c.size * k = mul-suc _ _ ∙ add_comm _ _ in
-      slot-reads n k (omega arith) (drop c.size bs) ∙ rw (e, drop-drop)
+      slot_reads n k (omega arith) (drop c.size bs) ∙ rw (e, drop-drop)
 
-  slot-writes : (n k : ℕ) → k < n → (bs : List ℕ) (j : ℕ) (xs : List ℕ) → j + length xs ≤ c.size
+  slot_writes : (n k : ℕ) → k < n → (bs : List ℕ) (j : ℕ) (xs : List ℕ) → j + length xs ≤ c.size
       → decode_row c n (sets bs (c.size * k + j) xs) ≡ set (decode_row c n bs) k (c.decode (sets (part bs (c.size * k) c.size) j xs))
   unfolding decode_row
-  slot-writes zero k h bs j xs l = absurd (let z : ⊥ = omega arith in z)
-  slot-writes (suc n) zero h bs j xs l =
+  slot_writes zero k h bs j xs l = absurd (let z : ⊥ = omega arith in z)
+  slot_writes (suc n) zero h bs j xs l =
       rw (mul-zero, zero-add, take_sets_within c.size bs j xs l, drop_sets_within c.size bs j xs l)
-  slot-writes (suc n) (suc k) h bs j xs l =
+  slot_writes (suc n) (suc k) h bs j xs l =
       let e : c.size * suc k ≡ c.size + c.size * k = mul-suc _ _ ∙ add_comm _ _ in
-      let w = slot-writes n k (omega arith) (drop c.size bs) j xs l in
+      let w = slot_writes n k (omega arith) (drop c.size bs) j xs l in
       rw (e, add_assoc, take_sets_past c.size bs (c.size + (c.size * k + j)) xs (omega arith), drop_sets_past c.size bs (c.size * k + j) xs)
       (ap {B = List A} (λ r. c.decode (take c.size bs) ∷ r) (rw drop-drop at w))
 
@@ -114,29 +114,29 @@ module _ {A : Type 0} (c : Codec A) (z : A) where
       let s' = (and-eq-true_iff (c.stands (take c.size bs)) (row_stands c n (drop c.size bs))).0 s in
       rw (e, ← (drop-drop (c.size * k) c.size bs)) (slot_held n k (omega arith) (drop c.size bs) s'.1)
 
-  slot-stays : (n k : ℕ) → k < n → (bs : List ℕ) (j : ℕ) (xs : List ℕ) → j + length xs ≤ c.size → row_stands c n bs ≡ true
+  slot_stays : (n k : ℕ) → k < n → (bs : List ℕ) (j : ℕ) (xs : List ℕ) → j + length xs ≤ c.size → row_stands c n bs ≡ true
       → c.stands (sets (part bs (c.size * k) c.size) j xs) ≡ true → row_stands c n (sets bs (c.size * k + j) xs) ≡ true
   unfolding row_stands
-  slot-stays zero k h bs j xs l s t = absurd (let z : ⊥ = omega arith in z)
-  slot-stays (suc n) zero h bs j xs l s t =
+  slot_stays zero k h bs j xs l s t = absurd (let z : ⊥ = omega arith in z)
+  slot_stays (suc n) zero h bs j xs l s t =
       let s' = (and-eq-true_iff (c.stands (take c.size bs)) (row_stands c n (drop c.size bs))).0 s in
       rw (mul-zero, zero-add, take_sets_within c.size bs j xs l, drop_sets_within c.size bs j xs l)
       ((and-eq-true_iff _ _).1 (rw mul-zero at t, s'.1))
-  slot-stays (suc n) (suc k) h bs j xs l s t =
+  slot_stays (suc n) (suc k) h bs j xs l s t =
       let e : c.size * suc k ≡ c.size + c.size * k = mul-suc _ _ ∙ add_comm _ _ in
       let s' = (and-eq-true_iff (c.stands (take c.size bs)) (row_stands c n (drop c.size bs))).0 s in
       let t' = rw (e, ← (drop-drop (c.size * k) c.size bs)) at t in
       rw (e, add_assoc, take_sets_past c.size bs (c.size + (c.size * k + j)) xs (omega arith), drop_sets_past c.size bs (c.size * k + j) xs)
-      ((and-eq-true_iff _ _).1 (s'.0, slot-stays n k (omega arith) (drop c.size bs) j xs l s'.1 t'))
+      ((and-eq-true_iff _ _).1 (s'.0, slot_stays n k (omega arith) (drop c.size bs) j xs l s'.1 t'))
 
   pub slot : (n k : ℕ) → k < n → Field (row c n) c (c.size * k) (λ xs. get_or xs k z) (λ xs y. set xs k y)
   slot n k h =
       record {
         inside = omega (arith, mul-le-mul_left c.size h);
-        reads = λ bs l. slot-reads n k h bs;
-        writes = λ bs j xs l m. slot-writes n k h bs j xs m;
+        reads = λ bs l. slot_reads n k h bs;
+        writes = λ bs j xs l m. slot_writes n k h bs j xs m;
         held = λ bs l s. slot_held n k h bs s;
-        stays = λ bs j xs l m s t. slot-stays n k h bs j xs m s t;
+        stays = λ bs j xs l m s t. slot_stays n k h bs j xs m s t;
       }
 
 -- a field of a field
@@ -198,8 +198,8 @@ pub inner_first : {A B D : Type 0} {c : Codec A} {d : Codec B} {e : Codec D} {at
 inner_first f f' = moved (add-zero _) (inner f f')
 
 -- past a row's end stands the default, and nothing is set
-pub row-past : {A : Type 0} (c : Codec A) (z : A) (n k : ℕ) (bs : List ℕ) → n ≤ k → get_or (decode_row c n bs) k z ≡ z
-row-past c z n k bs h = get_or-eq_default (decode_row c n bs) z {n = k} (rw row_count h)
+pub row_past : {A : Type 0} (c : Codec A) (z : A) (n k : ℕ) (bs : List ℕ) → n ≤ k → get_or (decode_row c n bs) k z ≡ z
+row_past c z n k bs h = get_or-eq_default (decode_row c n bs) z {n = k} (rw row_count h)
 
 pub row_out : {A : Type 0} (c : Codec A) (x : A) (n k : ℕ) (bs : List ℕ) → n ≤ k → set (decode_row c n bs) k x ≡ decode_row c n bs
 row_out c x n k bs h = set_out (decode_row c n bs) k x (rw row_count h)

@@ -5,7 +5,7 @@ use lib.{ListN.{length, get_or, set, take, drop, length-append, length-set, leng
 use mathlib.Core.{Path.{◌≡◌, refl, sym, ◌∙◌, ap, ap₂, subst}, Bool.{true, and-eq-true_iff}, List.{List, [], ◌∷◌, ◌++◌}}
 use native.Mathlib.{Nat.suc-mul, Omega.arith}
 use Rattle.little_endian.{specs.LittleEndian.{from_bytes, to_bytes, Bytes}, proofs.Numbers.{from_to, to_from, from_lt, to_bytes-length}}
-use Rattle.codecs.proofs.Bytes.{take-bytes, drop-bytes}
+use Rattle.codecs.proofs.Bytes.{take_bytes, drop_bytes}
 use Rattle.codecs.specs.Codec.{Codec, number, cases, ◌⊗◌, via, row, encode_row, decode_row, row_stands, Each, Below, RowFits, Lawful}
 
 pub number_lawful : (w : ℕ) → Lawful (number w) (Below w)
@@ -43,16 +43,16 @@ module _ {A B : Type 0} {c : Codec A} {d : Codec B} {F : A → Type 0} {G : B �
         forth = λ bs b l s.
             let s' = (and-eq-true_iff _ _).0 s in
             ap₂ {A = List ℕ} {B = List ℕ} {C = List ℕ} ◌++◌
-            (C.forth (take c.size bs) (take-bytes c.size bs b) (length-take-le c.size bs (omega arith)) s'.0)
-            (D.forth (drop c.size bs) (drop-bytes c.size bs b) (rw length-drop (omega arith)) s'.1)
+            (C.forth (take c.size bs) (take_bytes c.size bs b) (length-take-le c.size bs (omega arith)) s'.0)
+            (D.forth (drop c.size bs) (drop_bytes c.size bs b) (rw length-drop (omega arith)) s'.1)
             ∙ take-append-drop c.size bs;
         stand = λ p h.
             let l = C.long p.0 h.0 in
             rw (take_at (c.encode p.0) (d.encode p.1) c.size l, drop_at (c.encode p.0) (d.encode p.1) c.size l)
             ((and-eq-true_iff _ _).1 (C.stand p.0 h.0, D.stand p.1 h.1));
         fits = λ bs b l. (
-          C.fits (take c.size bs) (take-bytes c.size bs b) (length-take-le c.size bs (omega arith)),
-          D.fits (drop c.size bs) (drop-bytes c.size bs b) (rw length-drop (omega arith)),
+          C.fits (take c.size bs) (take_bytes c.size bs b) (length-take-le c.size bs (omega arith)),
+          D.fits (drop c.size bs) (drop_bytes c.size bs b) (rw length-drop (omega arith)),
         );
       }
 
@@ -82,8 +82,8 @@ module _ {A : Type 0} (F : A → Type 0) (y : A) (h : F y) where
   each_set (x ∷ xs) zero r = (h, r.1)
   each_set (x ∷ xs) (suc k) r = (r.0, each_set xs k r.1)
 
-  pub set-fits : {n : ℕ} {xs : List A} (k : ℕ) → RowFits n F xs → RowFits n F (set xs k y)
-  set-fits {n} {xs} k r = record { count = length-set xs k y ∙ r.count; each = each_set xs k r.each }
+  pub set_fits : {n : ℕ} {xs : List A} (k : ℕ) → RowFits n F xs → RowFits n F (set xs k y)
+  set_fits {n} {xs} k r = record { count = length-set xs k y ∙ r.count; each = each_set xs k r.each }
 
 -- a row has as many values as it is read for
 pub row_count : {A : Type 0} (c : Codec A) (n : ℕ) (bs : List ℕ) → length (decode_row c n bs) ≡ n
@@ -100,11 +100,11 @@ decoded c z P h d (suc n) zero bs = h (take c.size bs)
 decoded c z P h d (suc n) (suc k) bs = decoded c z P h d n k (drop c.size bs)
 
 module _ {A : Type 0} {c : Codec A} {F : A → Type 0} (C : Lawful c F) where
-  row-long : (xs : List A) → Each F xs → length (encode_row c xs) ≡ length xs * c.size
+  row_long : (xs : List A) → Each F xs → length (encode_row c xs) ≡ length xs * c.size
   unfolding encode_row Each
-  row-long [] h = omega arith
-  row-long (x ∷ xs) h =
-      rw (length-append, suc-mul) (omega (arith, C.long x h.0, row-long xs h.1))
+  row_long [] h = omega arith
+  row_long (x ∷ xs) h =
+      rw (length-append, suc-mul) (omega (arith, C.long x h.0, row_long xs h.1))
 
   row_back : (xs : List A) → Each F xs → decode_row c (length xs) (encode_row c xs) ≡ xs
   unfolding encode_row decode_row Each
@@ -114,25 +114,25 @@ module _ {A : Type 0} {c : Codec A} {F : A → Type 0} (C : Lawful c F) where
       rw (take_at (c.encode x) (encode_row c xs) c.size l, drop_at (c.encode x) (encode_row c xs) c.size l)
       (ap₂ {C = List A} (λ y ys. y ∷ ys) (C.back x h.0) (row_back xs h.1))
 
-  row-stand : (xs : List A) → Each F xs → row_stands c (length xs) (encode_row c xs) ≡ true
+  row_stand : (xs : List A) → Each F xs → row_stands c (length xs) (encode_row c xs) ≡ true
   unfolding encode_row row_stands Each
-  row-stand [] h = refl
-  row-stand (x ∷ xs) h =
+  row_stand [] h = refl
+  row_stand (x ∷ xs) h =
       let l = C.long x h.0 in
       rw (take_at (c.encode x) (encode_row c xs) c.size l, drop_at (c.encode x) (encode_row c xs) c.size l)
-      ((and-eq-true_iff _ _).1 (C.stand x h.0, row-stand xs h.1))
+      ((and-eq-true_iff _ _).1 (C.stand x h.0, row_stand xs h.1))
 
-  row-forth : (n : ℕ) (bs : List ℕ) → Bytes bs → length bs ≡ n * c.size → row_stands c n bs ≡ true
+  row_forth : (n : ℕ) (bs : List ℕ) → Bytes bs → length bs ≡ n * c.size → row_stands c n bs ≡ true
       → encode_row c (decode_row c n bs) ≡ bs
   unfolding encode_row decode_row row_stands
-  row-forth zero [] b l s = refl
-  row-forth zero (x ∷ bs) b l s = absurd (let z : ⊥ = omega arith in z)
-  row-forth (suc n) bs b l s =
+  row_forth zero [] b l s = refl
+  row_forth zero (x ∷ bs) b l s = absurd (let z : ⊥ = omega arith in z)
+  row_forth (suc n) bs b l s =
       let s' = (and-eq-true_iff _ _).0 s in
       let e = suc-mul n c.size in
       ap₂ {A = List ℕ} {B = List ℕ} {C = List ℕ} ◌++◌
-      (C.forth (take c.size bs) (take-bytes c.size bs b) (length-take-le c.size bs (omega arith)) s'.0)
-      (row-forth n (drop c.size bs) (drop-bytes c.size bs b) (rw length-drop (omega arith)) s'.1)
+      (C.forth (take c.size bs) (take_bytes c.size bs b) (length-take-le c.size bs (omega arith)) s'.0)
+      (row_forth n (drop c.size bs) (drop_bytes c.size bs b) (rw length-drop (omega arith)) s'.1)
       ∙ take-append-drop c.size bs
 
   row_fits : (n : ℕ) (bs : List ℕ) → Bytes bs → length bs ≡ n * c.size → Each F (decode_row c n bs)
@@ -140,17 +140,17 @@ module _ {A : Type 0} {c : Codec A} {F : A → Type 0} (C : Lawful c F) where
   row_fits zero bs b l = tt
   row_fits (suc n) bs b l =
       let e = suc-mul n c.size in (
-        C.fits (take c.size bs) (take-bytes c.size bs b) (length-take-le c.size bs (omega arith)),
-        row_fits n (drop c.size bs) (drop-bytes c.size bs b) (rw length-drop (omega arith)),
+        C.fits (take c.size bs) (take_bytes c.size bs b) (length-take-le c.size bs (omega arith)),
+        row_fits n (drop c.size bs) (drop_bytes c.size bs b) (rw length-drop (omega arith)),
       )
 
   pub row_lawful : (n : ℕ) → Lawful (row c n) (RowFits n F)
   row_lawful n =
       record {
-        long = λ xs h. row-long xs h.each ∙ ap (λ (k : ℕ). k * c.size) h.count;
+        long = λ xs h. row_long xs h.each ∙ ap (λ (k : ℕ). k * c.size) h.count;
         back = λ xs h. subst (λ (k : ℕ). decode_row c k (encode_row c xs) ≡ xs) h.count (row_back xs h.each);
-        forth = row-forth n;
-        stand = λ xs h. subst (λ (k : ℕ). row_stands c k (encode_row c xs) ≡ true) h.count (row-stand xs h.each);
+        forth = row_forth n;
+        stand = λ xs h. subst (λ (k : ℕ). row_stands c k (encode_row c xs) ≡ true) h.count (row_stand xs h.each);
         fits = λ bs b l. record { count = row_count c n bs; each = row_fits n bs b l };
       }
 

@@ -21,21 +21,21 @@ module _ {A : Type 0} (c : Codec A) where
   encode-append (x ∷ xs) ys = rw (encode-append xs ys) (sym (append_assoc (c.encode x) (encode_row c xs) (encode_row c ys)))
 
   -- a loop that reads has put the first i values before what stood there
-  pub read-begins : (bs : List ℕ) (l : List A) → l ≡ decode_row c 0 bs ++ drop 0 l
+  pub read_begins : (bs : List ℕ) (l : List A) → l ≡ decode_row c 0 bs ++ drop 0 l
   unfolding decode_row
-  read-begins bs l = refl
+  read_begins bs l = refl
 
-  pub read-turn : (bs : List ℕ) (i : ℕ) (l₀ l : List A) → i < length l₀ → l ≡ decode_row c i bs ++ drop i l₀
+  pub read_turn : (bs : List ℕ) (i : ℕ) (l₀ l : List A) → i < length l₀ → l ≡ decode_row c i bs ++ drop i l₀
       → set l i (c.decode (part bs (c.size * i) c.size)) ≡ decode_row c (suc i) bs ++ drop (suc i) l₀
-  read-turn bs i l₀ l h e =
+  read_turn bs i l₀ l h e =
       let x = c.decode (part bs (c.size * i) c.size) in
       rw (e, drop-cons l₀ i x h, decode_snoc i bs)
       (set_at (decode_row c i bs) (get_or l₀ i x) (drop (suc i) l₀) x i (row_count c i bs)
       ∙ sym (append_snoc (decode_row c i bs) x (drop (suc i) l₀)))
 
-  pub read-ends : (bs : List ℕ) (i : ℕ) (l₀ l : List A) → length l₀ ≤ i → i ≤ length l₀ → l ≡ decode_row c i bs ++ drop i l₀
+  pub read_ends : (bs : List ℕ) (i : ℕ) (l₀ l : List A) → length l₀ ≤ i → i ≤ length l₀ → l ≡ decode_row c i bs ++ drop i l₀
       → l ≡ decode_row c (length l₀) bs
-  read-ends bs i l₀ l h h' e =
+  read_ends bs i l₀ l h h' e =
       let n : i ≡ length l₀ = omega arith in
       e ∙ rw (drop_of_length-le l₀ {i = i} h) (append-nil (decode_row c i bs) ∙ rw n)
 
@@ -46,9 +46,9 @@ module _ (w : ℕ) where
   encode-length (x ∷ xs) = rw (length-append, to_bytes-length, encode-length xs, mul-suc) (omega arith)
 
   -- a row written, and something after it
-  pub row-after : (xs : List ℕ) {l m o ys : List ℕ} {at at' : ℕ} → at' ≡ at + w * length xs
+  pub row_after : (xs : List ℕ) {l m o ys : List ℕ} {at at' : ℕ} → at' ≡ at + w * length xs
       → Wrote l at (encode_row (number w) xs) m → Wrote m at' ys o → Wrote l at (encode_row (number w) xs ++ ys) o
-  row-after xs e a b = then a (rw (encode-length xs, ← e) b)
+  row_after xs e a b = then a (rw (encode-length xs, ← e) b)
 
   -- a loop that writes has written the first i values
   pub write_turn : {l m o : List ℕ} (at i : ℕ) (xs : List ℕ) → i < length xs → Wrote l at (encode_row (number w) (take i xs)) m
@@ -73,29 +73,29 @@ pub record Writing (w : ℕ) (l : List ℕ) (at : ℕ) (xs m : List ℕ) (i : �
 
 module _ (w : ℕ) where
   pub reading_begins : (b : List ℕ) (at : ℕ) (l : List ℕ) → Reading w b at l l 0
-  reading_begins b at l = record { within = omega arith; kept = refl; is = read-begins (number w) _ l }
+  reading_begins b at l = record { within = omega arith; kept = refl; is = read_begins (number w) _ l }
 
-  pub reading-turn : (b : List ℕ) (at : ℕ) (l₀ l : List ℕ) (i x : ℕ) → i < length l₀ → x ≡ from_bytes (part b (at + w * i) w)
+  pub reading_turn : (b : List ℕ) (at : ℕ) (l₀ l : List ℕ) (i x : ℕ) → i < length l₀ → x ≡ from_bytes (part b (at + w * i) w)
       → Reading w b at l₀ l i → Reading w b at l₀ (set l i x) (i + 1)
-  reading-turn b at l₀ l i x h e r =
+  reading_turn b at l₀ l i x h e r =
       let p : part (part b at (w * length l₀)) (w * i) w ≡ part b (at + w * i) w =
       part-part b at (w * length l₀) (w * i) w (omega (arith, mul-le-mul_left w h)) in
-      let t = rw p at (read-turn (number w) (part b at (w * length l₀)) i l₀ l h r.is) in
+      let t = rw p at (read_turn (number w) (part b at (w * length l₀)) i l₀ l h r.is) in
       record { within = omega arith; kept = length-set l i x ∙ r.kept; is = rw (add-one, e) t }
 
-  pub reading-ends : (b : List ℕ) (at : ℕ) (l₀ l : List ℕ) (i : ℕ) → length l₀ ≤ i → Reading w b at l₀ l i
+  pub reading_ends : (b : List ℕ) (at : ℕ) (l₀ l : List ℕ) (i : ℕ) → length l₀ ≤ i → Reading w b at l₀ l i
       → l ≡ decode_row (number w) (length l₀) (part b at (w * length l₀))
-  reading-ends b at l₀ l i h r = read-ends (number w) _ i l₀ l h r.within r.is
+  reading_ends b at l₀ l i h r = read_ends (number w) _ i l₀ l h r.within r.is
 
   pub writing_begins : (l : List ℕ) (at : ℕ) (xs : List ℕ) → Writing w l at xs l 0
   unfolding encode_row
   writing_begins l at xs = record { within = omega arith; wrote = record { is = refl; kept = refl } }
 
-  pub writing-turn : {l m o : List ℕ} {at i : ℕ} {xs : List ℕ} → i < length xs → Writing w l at xs m i
+  pub writing_turn : {l m o : List ℕ} {at i : ℕ} {xs : List ℕ} → i < length xs → Writing w l at xs m i
       → Wrote m (at + w * i) (to_bytes w (get_or xs i 0)) o → Writing w l at xs o (i + 1)
-  writing-turn {at = at} {i = i} {xs = xs} h a b =
+  writing_turn {at = at} {i = i} {xs = xs} h a b =
       record { within = omega arith; wrote = rw add-one (write_turn w at i xs h a.wrote b) }
 
-  pub writing-ends : {l m : List ℕ} {at i : ℕ} {xs : List ℕ} → length xs ≤ i → Writing w l at xs m i
+  pub writing_ends : {l m : List ℕ} {at i : ℕ} {xs : List ℕ} → length xs ≤ i → Writing w l at xs m i
       → Wrote l at (encode_row (number w) xs) m
-  writing-ends {i = i} {xs = xs} h a = rw (take_all i xs h) at a.wrote
+  writing_ends {i = i} {xs = xs} h a = rw (take_all i xs h) at a.wrote

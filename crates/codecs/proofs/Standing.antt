@@ -8,10 +8,10 @@ use Rattle.codecs.specs.Codec.{Codec, row_stands}
 
 module _ {A : Type 0} (c : Codec A) where
   -- a row of values that all stand
-  pub all-stand : ((bs : List ℕ) → c.stands bs ≡ true) → (n : ℕ) (bs : List ℕ) → row_stands c n bs ≡ true
+  pub all_stand : ((bs : List ℕ) → c.stands bs ≡ true) → (n : ℕ) (bs : List ℕ) → row_stands c n bs ≡ true
   unfolding row_stands
-  all-stand h zero bs = refl
-  all-stand h (suc n) bs = rw (h (take c.size bs)) (all-stand h n (drop c.size bs))
+  all_stand h zero bs = refl
+  all_stand h (suc n) bs = rw (h (take c.size bs)) (all_stand h n (drop c.size bs))
 
   -- the first i values of a row of n stand
   pub record Standing (n : ℕ) (bs : List ℕ) (i : ℕ) : Type 0 where

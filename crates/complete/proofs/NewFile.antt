@@ -7,10 +7,10 @@ use Rattle.store.specs.{Prepare.new_file, Complete.{link_new, place_streams, pla
 use Rattle.complete.specs.Placing.{opened_slot, file_slots}
 
 -- a name that has units
-pub named-is : (us : List ℕ) → not (eqb (length us) 0) ≡ not (is_empty us)
+pub named_is : (us : List ℕ) → not (eqb (length us) 0) ≡ not (is_empty us)
 unfolding is_empty
-named-is [] = refl
-named-is (u ∷ us) = ap not (ne_eqb (length (u ∷ us)) 0 (λ z. omega arith))
+named_is [] = refl
+named_is (u ∷ us) = ap not (ne_eqb (length (u ∷ us)) 0 (λ z. omega arith))
 
 -- a chain of steps may be grouped either way
 bind_assoc : {A B C : Type 0} (e : Checked A) (g : A → Checked B) (h : B → Checked C) → (e >>= g >>= h) ≡ (e >>= λ a. g a >>= h)

@@ -1,5 +1,5 @@
 -- Laws of `leading`, the count of elements before the first that fails a test, and of parts that end there.
-use Rattle.base.{specs.Base.{ℕ, zero, suc, ◌+◌, ◌-◌, ◌≤◌, ◌<◌, ◌≡◌, Bool, true, false, cond, List, [], ◌∷◌, eqb, length, get_or, take, drop, replicate, slice}, proofs.Laws.{refl, sym, ap, ◌∙◌, arith, drop_of_length-le, length-drop, length-take, eqb-true, drop-next}}
+use Rattle.base.{specs.Base.{ℕ, zero, suc, ◌+◌, ◌-◌, ◌≤◌, ◌<◌, ◌≡◌, Bool, true, false, cond, List, [], ◌∷◌, eqb, length, get_or, take, drop, replicate, slice}, proofs.Laws.{refl, sym, ap, ◌∙◌, arith, drop_of_length-le, length-drop, length-take, eqb-true, drop_next}}
 use lib.Seq.{take-nil, take-take, drop-drop}
 use native.Mathlib.Nat.{add-zero, sub-zero, zero-sub, suc-sub-suc}
 use Rattle.components.specs.Positions.{leading, is_sign}
@@ -11,11 +11,11 @@ pub record Seeking (p : ℕ → Bool) (us : List ℕ) (at i : ℕ) : Type 0 wher
 module _ {p : ℕ → Bool} {us : List ℕ} {at i : ℕ} (seeking : Seeking p us at i) where
   pub seek_next : i < length us → p (get_or us i 0) ≡ true → Seeking p us at (i + 1)
   unfolding leading
-  seek_next h e = record { left = seeking.left ∙ rw (drop-next us i 0 h, e) (omega arith) }
+  seek_next h e = record { left = seeking.left ∙ rw (drop_next us i 0 h, e) (omega arith) }
 
   pub seek_stops : i < length us → p (get_or us i 0) ≡ false → i ≡ at + leading p (drop at us)
   unfolding leading
-  seek_stops h e = sym (seeking.left ∙ rw (drop-next us i 0 h, e) (add-zero i))
+  seek_stops h e = sym (seeking.left ∙ rw (drop_next us i 0 h, e) (add-zero i))
 
   pub seek_end : length us ≤ i → i ≡ at + leading p (drop at us)
   unfolding leading
@@ -32,10 +32,10 @@ module _ (p : ℕ → Bool) where
       go false h = omega arith
 
   -- none passes where they end
-  pub leading-rest : (us : List ℕ) → leading p (drop (leading p us) us) ≡ 0
+  pub leading_rest : (us : List ℕ) → leading p (drop (leading p us) us) ≡ 0
   unfolding leading
-  leading-rest [] = refl
-  leading-rest (u ∷ us) = go (p u) refl (leading-rest us)
+  leading_rest [] = refl
+  leading_rest (u ∷ us) = go (p u) refl (leading_rest us)
     where
       go : (b : Bool) → p u ≡ b → leading p (drop (leading p us) us) ≡ 0 → leading p (drop (cond b (suc (leading p us)) 0) (u ∷ us)) ≡ 0
       go true e h = h

@@ -4,13 +4,13 @@ use Rattle.base.{specs.Base.{ℕ, zero, suc, ◌+◌, ◌-◌, ◌≤◌, ◌<�
 use lib.Seq.{drop-drop, take-add, take-take, length-take-le}
 use native.Mathlib.Nat.{zero-add, add-zero}
 use Rattle.units.specs.Units.{backslash}
-use Rattle.components.proofs.{Leading.{leading_le, leading-rest, leading_signs, slice_start, slice_take, slice_drop}, Splitting.{split_one, split-more, not_empty, components-skip, components-first, components-none, components_single, components_trail, signs_alone, Open, open_signs, open_trail}}
+use Rattle.components.proofs.{Leading.{leading_le, leading_rest, leading_signs, slice_start, slice_take, slice_drop}, Splitting.{split_one, split_more, not_empty, components_skip, components_first, components_none, components_single, components_trail, signs_alone, Open, open_signs, open_trail}}
 use Rattle.components.specs.{Components.{split, components}, Positions.{leading, is_sign, no_sign, place_of, place_after, part_of, Within, next_component}, declared.Part.Part}
 
 -- a part that stands in the units before a place
-pub part-before : (path : List ℕ) (end : ℕ) (p : Part) → p.end ≤ end → part_of (take end path) p ≡ part_of path p
+pub part_before : (path : List ℕ) (end : ℕ) (p : Part) → p.end ≤ end → part_of (take end path) p ≡ part_of path p
 unfolding part_of
-part-before path end p h = ap (drop p.start) (take-take p.end end path h)
+part_before path end p h = ap (drop p.start) (take-take p.end end path h)
 
 -- from a place of the units up to the next sign
 pub place-within : (sign : ℕ) (us : List ℕ) (at : ℕ) → at ≤ length us → Within us (record { start = at; end = place_of sign us at })
@@ -32,37 +32,37 @@ module _ (path : List ℕ) (at : ℕ) where
   unfolding next_component place_of place_after
   next_order = (omega arith, omega arith)
 
-  pub next-within : (next_start ≡ next_end → ⊥) → next_end ≤ length path
+  pub next_within : (next_start ≡ next_end → ⊥) → next_end ≤ length path
   unfolding next_component place_of place_after
-  next-within ne =
+  next_within ne =
       let s = at + leading (is_sign backslash) (drop at path) in
       omega (arith, leading_le (no_sign backslash) (drop s path), length-drop s path)
 
-  pub next-part : (next_start ≡ next_end → ⊥) → Within path (next_component path at)
-  next-part ne = record { ordered = next_order.1; inside = next-within ne }
+  pub next_part : (next_start ≡ next_end → ⊥) → Within path (next_component path at)
+  next_part ne = record { ordered = next_order.1; inside = next_within ne }
 
   skipped : components (drop at path) ≡ components (drop next_start path)
   unfolding next_component place_after
   skipped =
       let n = leading (is_sign backslash) (drop at path) in
-      components-skip (drop at path) ∙ ap components (drop-drop n at path)
+      components_skip (drop at path) ∙ ap components (drop-drop n at path)
 
-  pub next-found : (next_start ≡ next_end → ⊥) → components (drop at path) ≡ part_of path (next_component path at) ∷ components (drop next_end path)
+  pub next_found : (next_start ≡ next_end → ⊥) → components (drop at path) ≡ part_of path (next_component path at) ∷ components (drop next_end path)
   unfolding next_component place_of place_after part_of
-  next-found ne =
+  next_found ne =
       let s = at + leading (is_sign backslash) (drop at path) in
       let m = leading (no_sign backslash) (drop s path) in
       skipped
-      ∙ components-first (drop s path) (λ e. ne (omega arith))
+      ∙ components_first (drop s path) (λ e. ne (omega arith))
       ∙ cc (slice_start s m path, drop-drop m s path)
 
-  pub next-none : next_start ≡ next_end → components (drop at path) ≡ []
+  pub next_none : next_start ≡ next_end → components (drop at path) ≡ []
   unfolding next_component place_of place_after
-  next-none e =
+  next_none e =
       let n = leading (is_sign backslash) (drop at path) in
       let s = at + n in
       skipped
-      ∙ components-none (drop s path) (rw (drop-drop n at path) at (leading-rest (is_sign backslash) (drop at path))) (omega arith)
+      ∙ components_none (drop s path) (rw (drop-drop n at path) at (leading_rest (is_sign backslash) (drop at path))) (omega arith)
 
 -- the components before a place that is cut open
 
@@ -70,9 +70,9 @@ pub first_open : (path : List ℕ) → Open (take (next_start path 0) path)
 unfolding next_component place_after
 first_open path = rw (zero-add (leading (is_sign backslash) path), leading_signs backslash path) (open_signs (leading (is_sign backslash) path))
 
-pub first-parents : (path : List ℕ) → components (take (next_start path 0) path) ≡ []
+pub first_parents : (path : List ℕ) → components (take (next_start path 0) path) ≡ []
 unfolding next_component place_after
-first-parents path = rw (zero-add (leading (is_sign backslash) path), leading_signs backslash path) (signs_alone (leading (is_sign backslash) path))
+first_parents path = rw (zero-add (leading (is_sign backslash) path), leading_signs backslash path) (signs_alone (leading (is_sign backslash) path))
 
 -- a component from s to e, with another after it: the path may be cut before the second, and the first is the last there
 
@@ -81,7 +81,7 @@ module _ (path : List ℕ) (s e : ℕ) (ends : e ≡ place_of backslash path s) 
   unfolding place_of
   closed =
       let m = leading (no_sign backslash) (drop s path) in
-      rw (ends, ← drop-drop m s path) (leading-rest (no_sign backslash) (drop s path))
+      rw (ends, ← drop-drop m s path) (leading_rest (no_sign backslash) (drop s path))
 
   -- at least one separator stands after the first
   gap : (next_start path e ≡ next_end path e → ⊥) → (k : ℕ) × (leading (is_sign backslash) (drop e path) ≡ suc k)
@@ -101,9 +101,9 @@ module _ (path : List ℕ) (s e : ℕ) (ends : e ≡ place_of backslash path s) 
   pub next_open : (next_start path e ≡ next_end path e → ⊥) → Open (take (next_start path e) path)
   next_open more = let g = gap more in rw (cut, g.1) (open_trail (take e path) g.0)
 
-  last-added : (s ≡ e → ⊥) → Open (take s path) → components (take e path) ≡ components (take s path) ++ (slice s e path ∷ [])
+  last_added : (s ≡ e → ⊥) → Open (take s path) → components (take e path) ≡ components (take s path) ++ (slice s e path ∷ [])
   unfolding place_of
-  last-added some opened =
+  last_added some opened =
       let m = leading (no_sign backslash) (drop s path) in
       let part : slice s e path ≡ take m (drop s path) = ap (λ (k : ℕ). slice s k path) ends ∙ slice_start s m path in
       ap (λ (k : ℕ). components (take k path)) ends
@@ -112,10 +112,10 @@ module _ (path : List ℕ) (s e : ℕ) (ends : e ≡ place_of backslash path s) 
       ∙ ap (λ (l : List (List ℕ)). components (take s path) ++ l) (components_single (drop s path) (λ z. some (omega arith)))
       ∙ ap (λ (l : List ℕ). components (take s path) ++ (l ∷ [])) (sym part)
 
-  pub next-parents : (next_start path e ≡ next_end path e → ⊥) → (s ≡ e → ⊥) → Open (take s path) → components (take (next_start path e) path) ≡ components (take s path) ++ (slice s e path ∷ [])
-  next-parents more some opened =
+  pub next_parents : (next_start path e ≡ next_end path e → ⊥) → (s ≡ e → ⊥) → Open (take s path) → components (take (next_start path e) path) ≡ components (take s path) ++ (slice s e path ∷ [])
+  next_parents more some opened =
       let g = gap more in
-      rw (cut, g.1) (components_trail (take e path) g.0) ∙ last-added some opened
+      rw (cut, g.1) (components_trail (take e path) g.0) ∙ last_added some opened
 
 -- a part of a path that was searched for a sign: the units before its end, and the place found in them, or their end
 
@@ -148,34 +148,34 @@ module _ {sign : ℕ} {path : List ℕ} {part : Part} {units : List ℕ} {k : �
       slice_take part.start part.end count path (leading_le (no_sign sign) (part_of path part))
       ∙ ap (λ (n : ℕ). slice part.start n path) (sym place)
 
-  pub split-last : length units ≤ k → split sign (part_of path part) ≡ part_of path (up_to part k) ∷ []
+  pub split_last : length units ≤ k → split sign (part_of path part) ≡ part_of path (up_to part k) ∷ []
   unfolding count
-  split-last h =
+  split_last h =
       let whole : length (part_of path part) ≤ count = omega (arith, place, size) in
       split_one sign (part_of path part) whole
       ∙ ap (λ (l : List ℕ). l ∷ []) (sym (take_all count (part_of path part) whole) ∙ first_part)
 
-  pub split-found : k < length units → split sign (part_of path part) ≡ part_of path (up_to part k) ∷ split sign (part_of path (past part k))
+  pub split_found : k < length units → split sign (part_of path part) ≡ part_of path (up_to part k) ∷ split sign (part_of path (past part k))
   unfolding count part_of
-  split-found h =
+  split_found h =
       let rest : part.start + suc count ≡ k + 1 = omega (arith, place) in
-      split-more sign (part_of path part) (omega (arith, place, size))
+      split_more sign (part_of path part) (omega (arith, place, size))
       ∙ ap (λ (l : List ℕ). l ∷ split sign (drop (suc count) (part_of path part))) first_part
       ∙ ap (λ (l : List ℕ). part_of path (up_to part k) ∷ split sign l) (slice_drop part.start part.end (suc count) path ∙ ap (λ (n : ℕ). slice n part.end path) rest)
 
-  pub part-some : (part.start ≡ k → ⊥) → is_empty (part_of path (up_to part k)) ≡ false
+  pub part_some : (part.start ≡ k → ⊥) → is_empty (part_of path (up_to part k)) ≡ false
   unfolding count
-  part-some ne = rw (← first_part) (not_empty (no_sign sign) (part_of path part) (λ z. ne (omega (arith, place))))
+  part_some ne = rw (← first_part) (not_empty (no_sign sign) (part_of path part) (λ z. ne (omega (arith, place))))
 
   -- both are parts of the path where the whole is
   module _ (within : Within path part) where
     sized : length units ≡ part.end
     sized = ap length searched.before ∙ length-take-le part.end path within.inside
 
-    pub first-within : Within path (up_to part k)
-    first-within =
+    pub first_within : Within path (up_to part k)
+    first_within =
         let up = place-within sign units part.start (omega (arith, sized)) in
         record { ordered = omega (arith, searched.found); inside = omega (arith, sized, searched.found) }
 
-    pub rest-within : k < length units → Within path (past part k)
-    rest-within h = record { ordered = omega (arith, sized); inside = within.inside }
+    pub rest_within : k < length units → Within path (past part k)
+    rest_within h = record { ordered = omega (arith, sized); inside = within.inside }

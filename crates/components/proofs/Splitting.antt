@@ -3,7 +3,7 @@ use Rattle.base.{specs.Base.{ℕ, zero, suc, ◌≤◌, ◌<◌, ◌≡◌, Bool
 use lib.{ListN.take-append-drop, Seq.{take-length, drop-length, drop-cons}}
 use mathlib.Core.List.{append-nil, append_assoc}
 use Rattle.units.specs.Units.{backslash}
-use Rattle.components.proofs.Leading.{leading_le, leading-rest, leading-take, leading_signs}
+use Rattle.components.proofs.Leading.{leading_le, leading_rest, leading-take, leading_signs}
 use Rattle.components.specs.{Components.{split, start_part, components}, Positions.{leading, is_sign, no_sign}}
 
 -- the parts after the first separator, which the list starts with
@@ -12,10 +12,10 @@ split_rest sign [] = []
 split_rest sign (u ∷ us) = split sign us
 
 -- the first part goes up to the first separator
-pub split-first : (sign : ℕ) (us : List ℕ) → split sign us ≡ take (leading (no_sign sign) us) us ∷ split_rest sign (drop (leading (no_sign sign) us) us)
+pub split_first : (sign : ℕ) (us : List ℕ) → split sign us ≡ take (leading (no_sign sign) us) us ∷ split_rest sign (drop (leading (no_sign sign) us) us)
 unfolding split leading start_part
-split-first sign [] = refl
-split-first sign (u ∷ us) = go (eqb u sign) (split-first sign us)
+split_first sign [] = refl
+split_first sign (u ∷ us) = go (eqb u sign) (split_first sign us)
   where
     m : ℕ
     m = leading (no_sign sign) us
@@ -28,13 +28,13 @@ split-first sign (u ∷ us) = go (eqb u sign) (split-first sign us)
 pub split_one : (sign : ℕ) (us : List ℕ) → length us ≤ leading (no_sign sign) us → split sign us ≡ us ∷ []
 split_one sign us h =
     let e : leading (no_sign sign) us ≡ length us = omega (arith, leading_le (no_sign sign) us) in
-    split-first sign us ∙ rw (e, take-length us, drop-length us)
+    split_first sign us ∙ rw (e, take-length us, drop-length us)
 
 -- with one, the other parts are those after it
-pub split-more : (sign : ℕ) (us : List ℕ) → leading (no_sign sign) us < length us → split sign us ≡ take (leading (no_sign sign) us) us ∷ split sign (drop (suc (leading (no_sign sign) us)) us)
-split-more sign us h =
+pub split_more : (sign : ℕ) (us : List ℕ) → leading (no_sign sign) us < length us → split sign us ≡ take (leading (no_sign sign) us) us ∷ split sign (drop (suc (leading (no_sign sign) us)) us)
+split_more sign us h =
     let m = leading (no_sign sign) us in
-    split-first sign us ∙ ap (λ (l : List ℕ). take m us ∷ split_rest sign l) (drop-cons us m 0 h)
+    split_first sign us ∙ ap (λ (l : List ℕ). take m us ∷ split_rest sign l) (drop-cons us m 0 h)
 
 -- a separator splits a list in two
 pub split-append : (sign : ℕ) (a b : List ℕ) → split sign (a ++ sign ∷ b) ≡ split sign a ++ split sign b
@@ -44,7 +44,7 @@ split-append sign (u ∷ a) b = go (eqb u sign) (split-append sign a b)
   where
     go : (t : Bool) → split sign (a ++ sign ∷ b) ≡ split sign a ++ split sign b → cond t ([] ∷ split sign (a ++ sign ∷ b)) (start_part u (split sign (a ++ sign ∷ b))) ≡ cond t ([] ∷ split sign a) (start_part u (split sign a)) ++ split sign b
     go true h = rw h
-    go false h = rw (h, split-first sign a)
+    go false h = rw (h, split_first sign a)
 
 -- components
 
@@ -60,16 +60,16 @@ unfolding components split keep is_empty
 components_signs zero t = refl
 components_signs (suc n) t = components-append [] (replicate n backslash ++ t) ∙ components_signs n t
 
-pub components-skip : (us : List ℕ) → components us ≡ components (drop (leading (is_sign backslash) us) us)
-components-skip us =
+pub components_skip : (us : List ℕ) → components us ≡ components (drop (leading (is_sign backslash) us) us)
+components_skip us =
     let n = leading (is_sign backslash) us in
     ap components (sym (take-append-drop n us) ∙ ap (λ (l : List ℕ). l ++ drop n us) (leading_signs backslash us))
     ∙ components_signs n (drop n us)
 
-components-rest : (us : List ℕ) → leading (no_sign backslash) us ≡ 0 → keep (λ c. not (is_empty c)) (split_rest backslash us) ≡ components us
+components_rest : (us : List ℕ) → leading (no_sign backslash) us ≡ 0 → keep (λ c. not (is_empty c)) (split_rest backslash us) ≡ components us
 unfolding components split keep is_empty leading
-components-rest [] h = refl
-components-rest (u ∷ us) h = go (eqb u backslash) h
+components_rest [] h = refl
+components_rest (u ∷ us) h = go (eqb u backslash) h
   where
     go : (b : Bool) → cond (not b) (suc (leading (no_sign backslash) us)) 0 ≡ 0 → keep (λ c. not (is_empty c)) (split backslash us) ≡ keep (λ c. not (is_empty c)) (cond b ([] ∷ split backslash us) (start_part u (split backslash us)))
     go true h = refl
@@ -85,17 +85,17 @@ not_empty p (u ∷ us) ne = go (p u) ne
     go false ne = absurd (ne refl)
 
 -- units before a separator are the first component
-pub components-first : (us : List ℕ) → (leading (no_sign backslash) us ≡ 0 → ⊥) → components us ≡ take (leading (no_sign backslash) us) us ∷ components (drop (leading (no_sign backslash) us) us)
+pub components_first : (us : List ℕ) → (leading (no_sign backslash) us ≡ 0 → ⊥) → components us ≡ take (leading (no_sign backslash) us) us ∷ components (drop (leading (no_sign backslash) us) us)
 unfolding components keep
-components-first us ne =
+components_first us ne =
     let m = leading (no_sign backslash) us in
-    ap (keep (λ c. not (is_empty c))) (split-first backslash us)
-    ∙ rw (not_empty (no_sign backslash) us ne) (ap (λ (l : List (List ℕ)). take m us ∷ l) (components-rest (drop m us) (leading-rest (no_sign backslash) us)))
+    ap (keep (λ c. not (is_empty c))) (split_first backslash us)
+    ∙ rw (not_empty (no_sign backslash) us ne) (ap (λ (l : List (List ℕ)). take m us ∷ l) (components_rest (drop m us) (leading_rest (no_sign backslash) us)))
 
-pub components-none : (us : List ℕ) → leading (is_sign backslash) us ≡ 0 → leading (no_sign backslash) us ≡ 0 → components us ≡ []
+pub components_none : (us : List ℕ) → leading (is_sign backslash) us ≡ 0 → leading (no_sign backslash) us ≡ 0 → components us ≡ []
 unfolding components split keep is_empty leading
-components-none [] p q = refl
-components-none (u ∷ us) p q = absurd (go (eqb u backslash) p q)
+components_none [] p q = refl
+components_none (u ∷ us) p q = absurd (go (eqb u backslash) p q)
   where
     go : (b : Bool) → cond b (suc (leading (is_sign backslash) us)) 0 ≡ 0 → cond (not b) (suc (leading (no_sign backslash) us)) 0 ≡ 0 → ⊥
     go true p q = omega arith

@@ -1,5 +1,5 @@
 -- Share counts: the test answers true exactly when every slot's counts are those of the live opens.
-use Rattle.base.{specs.Base.{ℕ, ◌≡◌, Bool, true, List, ◌↔◌, zero_stream, StreamNo, ShareCounts, Stream, Open}, proofs.Laws.{and_iff, eqb_iff, numbered-at, numbered_of}}
+use Rattle.base.{specs.Base.{ℕ, ◌≡◌, Bool, true, List, ◌↔◌, zero_stream, StreamNo, ShareCounts, Stream, Open}, proofs.Laws.{and_iff, eqb_iff, numbered_at, numbered_of}}
 use Rattle.sharing.specs.Sharing.{counts_of}
 use Rattle.tables.specs.Tables.{stream_at, live}
 use Rattle.consistency.specs.{Test.{same_counts, counts_test}, Consistent.CountsTrue}
@@ -38,7 +38,7 @@ pub counts_iff : (ss : List Stream) (os : List Open) → (counts_test ss os ≡ 
 unfolding counts_test stream_at
 counts_iff ss os = (
   λ h s b.
-      same-counts (stream_at ss s).counts (counts_of s (live os)) (numbered-at (counts_at os) zero_stream ss h s.0 b),
+      same-counts (stream_at ss s).counts (counts_of s (live os)) (numbered_at (counts_at os) zero_stream ss h s.0 b),
   λ c.
       numbered_of (counts_at os) zero_stream ss
       (λ i b.

@@ -1,10 +1,10 @@
 -- The links table: over consistent files the test answers true exactly when the statements hold. The files' number
 -- bounds the steps to the root.
 use Rattle.base.{specs.Base.{ℕ, ◌<◌, ◌≡◌, true, cond, List, ◌↔◌, ◌≢◌, eqb, length, all_from, count, keep, pairs, same, file_slots, root, zero_link, file_used, link_used, FileNo, LinkNo, File, Link}, proofs.Laws.{refl, sym, ◌∙◌, ap, by_cases, and_iff, eqb_iff, cond_true, cond_false, fails_iff, guard_iff, same_iff}}
-use Rattle.lists.proofs.Places.{used-below}
+use Rattle.lists.proofs.Places.{used_below}
 use Rattle.stored_names.specs.StoredNames.{units}
 use Rattle.tables.specs.Tables.{file_at, link_at}
-use Rattle.consistency.proofs.{Slots.{Decides, slots_iff, two_iff}, Numbered.{same-file, file_iff, names_iff, directory-file, files-each}, Parents.{links-kept, reaches-kept, reaches_climbs, few_steps}}
+use Rattle.consistency.proofs.{Slots.{Decides, slots_iff, two_iff}, Numbered.{same-file, file_iff, names_iff, directory-file, files_each}, Parents.{links_kept, reaches-kept, reaches_climbs, few_steps}}
 use Rattle.consistency.specs.{Relations.{link_to, reaches}, Slots.EveryTwo, Good.{good_link, is_zero_link, link_names_differ, LinkNamesDiffer}, Consistent.{FilesConsistent, GoodLinkOf, LinksConsistent}, Test.{good_link_of, links_of_file, links_test}}
 
 pub link_decides : (fs : List File) → Decides link_used (good_link_of fs) is_zero_link zero_link (GoodLinkOf fs)
@@ -32,7 +32,7 @@ link_decides fs =
 
 pub link_in : (ls : List Link) (l : LinkNo) → link_used (link_at ls l) ≡ true → l.0 < length ls
 unfolding link_at link_used
-link_in ls l u = used-below link_used zero_link refl ls l.0 u
+link_in ls l u = used_below link_used zero_link refl ls l.0 u
 
 name_test : (l m : Link) → (link_names_differ l m ≡ true) ↔ LinkNamesDiffer l m
 unfolding link_names_differ
@@ -57,23 +57,23 @@ wanted_iff ls f = (
 abbrev FileLinks : List Link → FileNo → File → Type 0
 FileLinks ls n f = (count (link_to n) ls ≡ cond (eqb n.0 0) 0 1) × (reaches ls file_slots n ≡ true)
 
-file-links : (ls : List Link) (n : FileNo) (f : File)
+file_links : (ls : List Link) (n : FileNo) (f : File)
     → (links_of_file (keep link_used ls) n.0 f ≡ true) ↔ (file_used f ≡ true → FileLinks ls n f)
 unfolding links_of_file
-file-links ls n f = (
-  λ h. simp (links_of_file, guard_iff, and_iff, eqb_iff, links-kept, reaches-kept) at h,
-  λ h. simp (links_of_file, guard_iff, and_iff, eqb_iff, links-kept, reaches-kept) h,
+file_links ls n f = (
+  λ h. simp (links_of_file, guard_iff, and_iff, eqb_iff, links_kept, reaches-kept) at h,
+  λ h. simp (links_of_file, guard_iff, and_iff, eqb_iff, links_kept, reaches-kept) h,
 )
 
-files-linked : (fs : List File) (ls : List Link)
+files_linked : (fs : List File) (ls : List Link)
     → (all_from (links_of_file (keep link_used ls)) 0 fs ≡ true)
     ↔ ((f : FileNo) → file_used (file_at fs f) ≡ true → FileLinks ls f (file_at fs f))
-files-linked fs ls = files-each (links_of_file (keep link_used ls)) (FileLinks ls) (file-links ls) fs
+files_linked fs ls = files_each (links_of_file (keep link_used ls)) (FileLinks ls) (file_links ls) fs
 
 module _ (fs : List File) (files : FilesConsistent fs) (ls : List Link) where
   -- the root is at most as many steps up as the table has slots
-  root-reached : LinksConsistent fs ls → (f : FileNo) → file_used (file_at fs f) ≡ true → reaches ls file_slots f ≡ true
-  root-reached c f u =
+  root_reached : LinksConsistent fs ls → (f : FileNo) → file_used (file_at fs f) ≡ true → reaches ls file_slots f ≡ true
+  root_reached c f u =
       let q = c.parents_lead_to_root f u in
       ap (λ (n : ℕ). reaches ls n f) (sym files.slots.size)
       ∙ few_steps fs ls c.others_have_one (λ i w. directory-file fs _ (c.slots.used_good i w).parent_directory) f u q.0 q.1
@@ -82,7 +82,7 @@ module _ (fs : List File) (files : FilesConsistent fs) (ls : List Link) where
   unfolding links_test
   links_iff = (
     λ h.
-        let p = simp (links_test, and_iff, slots_iff (link_decides fs), link_names_iff, files-linked) at h in
+        let p = simp (links_test, and_iff, slots_iff (link_decides fs), link_names_iff, files_linked) at h in
         record {
           slots = p.0.0;
           root_has_none = ((wanted_iff ls root).0 (p.1 root (directory-file fs root files.root_directory)).0).0 refl;
@@ -91,12 +91,12 @@ module _ (fs : List File) (files : FilesConsistent fs) (ls : List Link) where
           names_differ = p.0.1;
         },
     λ c.
-        simp (links_test, and_iff, slots_iff (link_decides fs), link_names_iff, files-linked) (
+        simp (links_test, and_iff, slots_iff (link_decides fs), link_names_iff, files_linked) (
           (c.slots, c.names_differ),
           λ f u. (
             (wanted_iff ls f).1
                 (λ r. ap (λ (g : FileNo). count (link_to g) ls) r ∙ c.root_has_none, λ r. c.others_have_one f r u),
-            root-reached c f u,
+            root_reached c f u,
           ),
         ),
   )

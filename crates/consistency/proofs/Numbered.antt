@@ -1,6 +1,6 @@
 -- Numbers that are types of their own, the types of files, and tests of every file with its number.
-use Rattle.base.{specs.Base.{ℕ, ◌<◌, ◌≡◌, Bool, true, false, not, ◌&&◌, List, ◌↔◌, ◌≢◌, eqb, length, get_or, all_from, same, is_used, is_directory, zero_file, file_used, FileType, Unused, Data, Directory, FileNo, StreamNo, Handle, File}, proofs.Laws.{refl, false≢true, true≢false, eqb-true, eq-eqb, fails_iff, exclude_iff, same_iff, numbered-at, numbered_of}}
-use Rattle.lists.proofs.Places.{used-below}
+use Rattle.base.{specs.Base.{ℕ, ◌<◌, ◌≡◌, Bool, true, false, not, ◌&&◌, List, ◌↔◌, ◌≢◌, eqb, length, get_or, all_from, same, is_used, is_directory, zero_file, file_used, FileType, Unused, Data, Directory, FileNo, StreamNo, Handle, File}, proofs.Laws.{refl, false≢true, true≢false, eqb-true, eq-eqb, fails_iff, exclude_iff, same_iff, numbered_at, numbered_of}}
+use Rattle.lists.proofs.Places.{used_below}
 use Rattle.tables.specs.Tables.{file_at}
 use Rattle.consistency.specs.Relations.{type_at}
 
@@ -11,8 +11,8 @@ same-file f g e = λ i. record { 0 = e i }
 pub same-stream : (s t : StreamNo) → s.0 ≡ t.0 → s ≡ t
 same-stream s t e = λ i. record { 0 = e i }
 
-pub same-handle : (h k : Handle) → h.0 ≡ k.0 → h ≡ k
-same-handle h k e = λ i. record { 0 = e i }
+pub same_handle : (h k : Handle) → h.0 ≡ k.0 → h ≡ k
+same_handle h k e = λ i. record { 0 = e i }
 
 pub file_iff : (f g : FileNo) → (eqb f.0 g.0 ≡ true) ↔ (f ≡ g)
 file_iff f g = (λ h. same-file f g (eqb-true f.0 g.0 h), λ e. eq-eqb f.0 g.0 (λ i. (e i).0))
@@ -21,7 +21,7 @@ pub stream_iff : (s t : StreamNo) → (eqb s.0 t.0 ≡ true) ↔ (s ≡ t)
 stream_iff s t = (λ h. same-stream s t (eqb-true s.0 t.0 h), λ e. eq-eqb s.0 t.0 (λ i. (e i).0))
 
 pub handle_iff : (h k : Handle) → (eqb h.0 k.0 ≡ true) ↔ (h ≡ k)
-handle_iff h k = (λ t. same-handle h k (eqb-true h.0 k.0 t), λ e. eq-eqb h.0 k.0 (λ i. (e i).0))
+handle_iff h k = (λ t. same_handle h k (eqb-true h.0 k.0 t), λ e. eq-eqb h.0 k.0 (λ i. (e i).0))
 
 -- a type that is not used is Unused
 pub unused : (t : FileType) → is_used t ≡ false → t ≡ Unused
@@ -30,11 +30,11 @@ unused Unused h = refl
 unused Data h = absurd (true≢false h)
 unused Directory h = absurd (true≢false h)
 
-pub directory-used : (t : FileType) → is_directory t ≡ true → is_used t ≡ true
+pub directory_used : (t : FileType) → is_directory t ≡ true → is_used t ≡ true
 unfolding is_used is_directory
-directory-used Unused h = h
-directory-used Data h = refl
-directory-used Directory h = refl
+directory_used Unused h = h
+directory_used Data h = refl
+directory_used Directory h = refl
 
 -- two types that are used are equal where both or neither is a directory
 pub same_type : (t u : FileType) → is_used t ≡ true → is_used u ≡ true → is_directory t ≡ is_directory u → t ≡ u
@@ -54,11 +54,11 @@ names_iff f g xs ys = exclude_iff (file_iff f g) (fails_iff (same_iff xs ys))
 -- past the end of the files no slot is used
 pub file_in : (fs : List File) (f : FileNo) → file_used (file_at fs f) ≡ true → f.0 < length fs
 unfolding file_at file_used is_used
-file_in fs f u = used-below file_used zero_file refl fs f.0 u
+file_in fs f u = used_below file_used zero_file refl fs f.0 u
 
 pub directory-file : (fs : List File) (f : FileNo) → is_directory (type_at fs f) ≡ true → file_used (file_at fs f) ≡ true
 unfolding file_used
-directory-file fs f d = directory-used (type_at fs f) d
+directory-file fs f d = directory_used (type_at fs f) d
 
 -- a test of every record with its number, which counts only where another passes
 module _ {A : Type 0} (used : A → Bool) (zero : A) (free : used zero ≡ false) (p : ℕ → A → Bool) (P : ℕ → A → Type 0)
@@ -66,7 +66,7 @@ module _ {A : Type 0} (used : A → Bool) (zero : A) (free : used zero ≡ false
   where
     pub each_iff : (all_from p 0 xs ≡ true) ↔ ((i : ℕ) → used (get_or xs i zero) ≡ true → P i (get_or xs i zero))
     each_iff = (
-      λ h i u. (decides i (get_or xs i zero)).0 (numbered-at p zero xs h i (used-below used zero free xs i u)) u,
+      λ h i u. (decides i (get_or xs i zero)).0 (numbered_at p zero xs h i (used_below used zero free xs i u)) u,
       λ h. numbered_of p zero xs (λ i b. (decides i (get_or xs i zero)).1 (h i)),
     )
 
@@ -74,8 +74,8 @@ module _ {A : Type 0} (used : A → Bool) (zero : A) (free : used zero ≡ false
 module _ (p : ℕ → File → Bool) (P : FileNo → File → Type 0)
     (decides : (n : FileNo) (f : File) → (p n.0 f ≡ true) ↔ (file_used f ≡ true → P n f)) (fs : List File)
   where
-    pub files-each : (all_from p 0 fs ≡ true) ↔ ((f : FileNo) → file_used (file_at fs f) ≡ true → P f (file_at fs f))
+    pub files_each : (all_from p 0 fs ≡ true) ↔ ((f : FileNo) → file_used (file_at fs f) ≡ true → P f (file_at fs f))
     unfolding file_at file_used is_used
-    files-each =
+    files_each =
         let e = each_iff file_used zero_file refl p (λ n. P (record { 0 = n })) (λ n. decides (record { 0 = n })) fs in
         (λ h f. e.0 h f.0, λ h. e.1 (λ i. h (record { 0 = i })))

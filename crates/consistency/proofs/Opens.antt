@@ -2,7 +2,7 @@
 use Rattle.base.{specs.Base.{ℕ, ◌≡◌, true, false, ◌&&◌, ◌≢◌, List, ◌↔◌, eqb, keep, pairs, root, zero_open, open_used, BareStream, bare_at, Open}, proofs.Laws.{refl, ap, eqb-true, eqb-false, ne_eqb, not-true, not-false, and_iff, not_iff, not_is, eqb_iff, leb_iff, fails_iff, exclude_iff, eqb_swap}}
 use Rattle.sharing.proofs.PairRule.{conflicting_sym}
 use Rattle.tables.specs.Tables.{live}
-use Rattle.consistency.proofs.{Slots.{Decides, slots_iff, two_iff}, Numbered.{same-file, same-stream, same-handle, stream_iff, handle_iff, file_iff}}
+use Rattle.consistency.proofs.{Slots.{Decides, slots_iff, two_iff}, Numbered.{same-file, same-stream, same_handle, stream_iff, handle_iff, file_iff}}
 use Rattle.consistency.specs.{Slots.EveryTwo, Good.{good_open, is_zero_open, handles_differ, opens_agree, HandlesDiffer, OpensAgree}, Consistent.{GoodOpenOf, OpensConsistent, NoConflicts}, Test.{good_open_of, opens_test, conflicts_test}}
 
 -- the root is not held by a delete-on-close open
@@ -41,7 +41,7 @@ open_decides ss next =
       decides_zero =
           λ o u. (
             λ h.
-                let n = same-handle o.handle zero_open.handle (eqb-true o.handle.0 0 (not-false (eqb o.handle.0 0) u)) in
+                let n = same_handle o.handle zero_open.handle (eqb-true o.handle.0 0 (not-false (eqb o.handle.0 0) u)) in
                 let p = simp (is_zero_open, and_iff, not_iff, eqb_iff) at h in
                 let f = same-file o.file root p.0.0.0.0 in
                 let s = same-stream o.stream zero_open.stream p.0.0.0.1 in
@@ -73,9 +73,9 @@ unfolding opens_agree
 agree_iff o q = exclude_iff (stream_iff o.stream q.stream) (λ h. h, λ h. h)
 
 -- in either order
-pub agree-swap : (o q : Open) → opens_agree o q ≡ opens_agree q o
+pub agree_swap : (o q : Open) → opens_agree o q ≡ opens_agree q o
 unfolding opens_agree
-agree-swap o q = rw (eqb_swap o.stream.0 q.stream.0, conflicting_sym o q)
+agree_swap o q = rw (eqb_swap o.stream.0 q.stream.0, conflicting_sym o q)
 
 pub opens_iff : (ss : List BareStream) (next : ℕ) (os : List Open) → (opens_test ss next os ≡ true) ↔ OpensConsistent ss next os
 unfolding opens_test live

@@ -6,58 +6,58 @@ use Rattle.tables.specs.Tables.{file_at}
 use Rattle.consistency.proofs.{Relations.link_to_iff, Numbered.{same-file, file_in}}
 use Rattle.consistency.specs.Relations.{link_to, parent_of, climb, reaches}
 
-pub links-kept : (f : FileNo) (ls : List Link) → count (link_to f) (keep link_used ls) ≡ count (link_to f) ls
-links-kept f ls = count-keep link_used (link_to f) (λ l h. ((link_to_iff f l).0 h).0) ls
+pub links_kept : (f : FileNo) (ls : List Link) → count (link_to f) (keep link_used ls) ≡ count (link_to f) ls
+links_kept f ls = count-keep link_used (link_to f) (λ l h. ((link_to_iff f l).0 h).0) ls
 
 -- the parent by the first link, or by a later one
 module _ (f : FileNo) (l : Link) (ls : List Link) where
-  pub parent-here : link_to f l ≡ true → parent_of (l ∷ ls) f ≡ l.parent
+  pub parent_here : link_to f l ≡ true → parent_of (l ∷ ls) f ≡ l.parent
   unfolding parent_of
-  parent-here e = rw (e, parent_of)
+  parent_here e = rw (e, parent_of)
 
-  pub parent-next : link_to f l ≡ false → parent_of (l ∷ ls) f ≡ parent_of ls f
+  pub parent_next : link_to f l ≡ false → parent_of (l ∷ ls) f ≡ parent_of ls f
   unfolding parent_of
-  parent-next e = rw (e, parent_of)
+  parent_next e = rw (e, parent_of)
 
 -- free links don't matter
-pub parent-kept : (ls : List Link) (f : FileNo) → parent_of (keep link_used ls) f ≡ parent_of ls f
+pub parent_kept : (ls : List Link) (f : FileNo) → parent_of (keep link_used ls) f ≡ parent_of ls f
 unfolding keep
-parent-kept [] f = refl
-parent-kept (l ∷ ls) f =
-    let h = parent-kept ls f in
+parent_kept [] f = refl
+parent_kept (l ∷ ls) f =
+    let h = parent_kept ls f in
     by_cases (link_used l)
     (λ u.
     rw (keep_yes link_used l ls u)
-    (by_cases (link_to f l) (λ e. parent-here f l (keep link_used ls) e ∙ sym (parent-here f l ls e))
-    (λ e. parent-next f l (keep link_used ls) e ∙ h ∙ sym (parent-next f l ls e))))
+    (by_cases (link_to f l) (λ e. parent_here f l (keep link_used ls) e ∙ sym (parent_here f l ls e))
+    (λ e. parent_next f l (keep link_used ls) e ∙ h ∙ sym (parent_next f l ls e))))
     (λ u.
     rw (keep_no link_used l ls u)
-    (h ∙ sym (parent-next f l ls (refuted (link_to f l) (λ e. not_both ((link_to_iff f l).0 e).0 u)))))
+    (h ∙ sym (parent_next f l ls (refuted (link_to f l) (λ e. not_both ((link_to_iff f l).0 e).0 u)))))
 
 -- a file with a link has the parent of one of its links
-pub parent-link : (ls : List Link) (f : FileNo) → 0 < count (link_to f) ls
+pub parent_link : (ls : List Link) (f : FileNo) → 0 < count (link_to f) ls
     → (i : ℕ) × (link_to f (get_or ls i zero_link) ≡ true) × (parent_of ls f ≡ (get_or ls i zero_link).parent)
 unfolding count
-parent-link [] f h = absurd (let z : ⊥ = omega arith in z)
-parent-link (l ∷ ls) f h =
-    by_cases (link_to f l) (λ e. (0, e, parent-here f l ls e))
+parent_link [] f h = absurd (let z : ⊥ = omega arith in z)
+parent_link (l ∷ ls) f h =
+    by_cases (link_to f l) (λ e. (0, e, parent_here f l ls e))
     (λ e.
-    let q = parent-link ls f (omega (arith, count_no (link_to f) l ls e)) in
-    (suc q.0, q.1, parent-next f l ls e ∙ q.2))
+    let q = parent_link ls f (omega (arith, count_no (link_to f) l ls e)) in
+    (suc q.0, q.1, parent_next f l ls e ∙ q.2))
 
 -- a file without a link is its own parent
-pub parent-none : (ls : List Link) (f : FileNo) → count (link_to f) ls ≡ 0 → parent_of ls f ≡ f
+pub parent_none : (ls : List Link) (f : FileNo) → count (link_to f) ls ≡ 0 → parent_of ls f ≡ f
 unfolding count parent_of
-parent-none [] f h = refl
-parent-none (l ∷ ls) f h =
+parent_none [] f h = refl
+parent_none (l ∷ ls) f h =
     by_cases (link_to f l) (λ e. absurd (let z : ⊥ = omega (arith, count_yes (link_to f) l ls e) in z))
-    (λ e. parent-next f l ls e ∙ parent-none ls f (sym (count_no (link_to f) l ls e) ∙ h))
+    (λ e. parent_next f l ls e ∙ parent_none ls f (sym (count_no (link_to f) l ls e) ∙ h))
 
 -- a steps up and then b more
-pub climb-more : (ls : List Link) (a b : ℕ) (f : FileNo) → climb ls (a + b) f ≡ climb ls b (climb ls a f)
+pub climb_more : (ls : List Link) (a b : ℕ) (f : FileNo) → climb ls (a + b) f ≡ climb ls b (climb ls a f)
 unfolding climb
-climb-more ls zero b f = ap (λ (n : ℕ). climb ls n f) (zero-add b)
-climb-more ls (suc a) b f = ap (λ (n : ℕ). climb ls n f) (suc-add a b) ∙ climb-more ls a b (parent_of ls f)
+climb_more ls zero b f = ap (λ (n : ℕ). climb ls n f) (zero-add b)
+climb_more ls (suc a) b f = ap (λ (n : ℕ). climb ls n f) (suc-add a b) ∙ climb_more ls a b (parent_of ls f)
 
 -- the root is here, or above the parent
 reaches_step : (ls : List Link) (n : ℕ) (f : FileNo)
@@ -71,7 +71,7 @@ reaches-kept ls zero f = refl
 reaches-kept ls (suc n) f =
     reaches_step (keep link_used ls) n f
     ∙ ap (λ (b : Bool). eqb f.0 0 || b)
-    (ap (λ (g : FileNo). reaches (keep link_used ls) n g) (parent-kept ls f) ∙ reaches-kept ls n (parent_of ls f))
+    (ap (λ (g : FileNo). reaches (keep link_used ls) n g) (parent_kept ls f) ∙ reaches-kept ls n (parent_of ls f))
     ∙ sym (reaches_step ls n f)
 
 -- the root is at most n steps up exactly when it is some number of steps up, at most n
@@ -97,19 +97,19 @@ climbs_reach ls (suc n) (suc m) f h e =
 module _ (fs : List File) (ls : List Link)
     (linked : (f : FileNo) → f ≢ root → file_used (file_at fs f) ≡ true → count (link_to f) ls ≡ 1)
     (parents : (i : ℕ) → link_used (get_or ls i zero_link) ≡ true → file_used (file_at fs (get_or ls i zero_link).parent) ≡ true) where
-  pub parent-used : (f : FileNo) → f ≢ root → file_used (file_at fs f) ≡ true → file_used (file_at fs (parent_of ls f)) ≡ true
-  parent-used f n u =
-      let q = parent-link ls f (omega (arith, linked f n u)) in
+  pub parent_used : (f : FileNo) → f ≢ root → file_used (file_at fs f) ≡ true → file_used (file_at fs (parent_of ls f)) ≡ true
+  parent_used f n u =
+      let q = parent_link ls f (omega (arith, linked f n u)) in
       ap (λ (g : FileNo). file_used (file_at fs g)) q.2
       ∙ parents q.0 ((link_to_iff f _).0 q.1).0
 
   -- every file before the root is used
-  climb-used : (i : ℕ) (f : FileNo) → file_used (file_at fs f) ≡ true → ((k : ℕ) → k < i → climb ls k f ≢ root)
+  climb_used : (i : ℕ) (f : FileNo) → file_used (file_at fs f) ≡ true → ((k : ℕ) → k < i → climb ls k f ≢ root)
       → file_used (file_at fs (climb ls i f)) ≡ true
   unfolding climb
-  climb-used zero f u n = u
-  climb-used (suc i) f u n =
-      climb-used i (parent_of ls f) (parent-used f (n 0 (omega arith)) u) (λ k b. n (suc k) (omega arith))
+  climb_used zero f u n = u
+  climb_used (suc i) f u n =
+      climb_used i (parent_of ls f) (parent_used f (n 0 (omega arith)) u) (λ k b. n (suc k) (omega arith))
 
   -- the least number of steps to the root
   module _ (f : FileNo) (u : file_used (file_at fs f) ≡ true) (m : ℕ) (there : climb ls m f ≡ root)
@@ -117,16 +117,16 @@ module _ (fs : List File) (ls : List Link)
     distinct : (i j : ℕ) → i < j → j < m → (climb ls i f).0 ≢ (climb ls j f).0
     distinct i j b c e =
         before (i + (m - j)) (omega arith)
-        (climb-more ls i (m - j) f
+        (climb_more ls i (m - j) f
         ∙ ap (climb ls (m - j)) (same-file (climb ls i f) (climb ls j f) e)
-        ∙ sym (climb-more ls j (m - j) f)
+        ∙ sym (climb_more ls j (m - j) f)
         ∙ ap (λ (n : ℕ). climb ls n f) (let z : j + (m - j) ≡ m = omega arith in z)
         ∙ there)
 
     least_steps : m ≤ length fs
     least_steps =
         pigeonhole (λ i. (climb ls i f).0) m (length fs)
-        (λ i b. file_in fs (climb ls i f) (climb-used i f u (λ k c. before k (omega arith)))) distinct
+        (λ i b. file_in fs (climb ls i f) (climb_used i f u (λ k c. before k (omega arith)))) distinct
 
   -- the root is at most as many steps up as there are files
   pub few_steps : (f : FileNo) → file_used (file_at fs f) ≡ true → (n : ℕ) → climb ls n f ≡ root → reaches ls (length fs) f ≡ true

@@ -1,7 +1,7 @@
 -- The laws of a table's slots: a test decides them; when one is set, and when other things are asked of a used one, they
 -- stay as they should be; under a map.
 use Rattle.base.{specs.Base.{ℕ, ◌≡◌, Bool, true, false, List, ◌↔◌, get_or, set, keep, pairs, map}, proofs.Laws.{refl, sym, ◌∙◌, length-set, by_cases, cond_true, cond_false, not_both, and_iff, eqb_iff, all_of, all_slots, pairs_keep_at, pairs_keep_of, set-each, set-pairs, get_or_map, length-map, ap, subst}}
-use Rattle.lists.proofs.Places.{used-below}
+use Rattle.lists.proofs.Places.{used_below}
 use Rattle.consistency.specs.Slots.{Slots, EveryTwo, slot_test, slots_test}
 
 -- what tests decide of a table's records: that a used one is good, and that a free one is all zero
@@ -12,11 +12,11 @@ pub record Decides {A : Type 0} (used good is_zero : A → Bool) (zero : A) (Goo
 
 module _ {A : Type 0} {used good is_zero : A → Bool} {zero : A} {Good : A → Type 0} (d : Decides used good is_zero zero Good) where
   -- a slot that passes: a good one, or all zero
-  pub slot-good : (x : A) → used x ≡ true → slot_test used good is_zero x ≡ true → Good x
-  slot-good x u h = (d.decides_good x u).0 (sym (cond_true (good x) (is_zero x) u) ∙ h)
+  pub slot_good : (x : A) → used x ≡ true → slot_test used good is_zero x ≡ true → Good x
+  slot_good x u h = (d.decides_good x u).0 (sym (cond_true (good x) (is_zero x) u) ∙ h)
 
-  slot-zero : (x : A) → used x ≡ false → slot_test used good is_zero x ≡ true → x ≡ zero
-  slot-zero x u h = (d.decides_zero x u).0 (sym (cond_false (good x) (is_zero x) u) ∙ h)
+  slot_zero : (x : A) → used x ≡ false → slot_test used good is_zero x ≡ true → x ≡ zero
+  slot_zero x u h = (d.decides_zero x u).0 (sym (cond_false (good x) (is_zero x) u) ∙ h)
 
   slot_of : (x : A) → (used x ≡ true → Good x) → (used x ≡ false → x ≡ zero) → slot_test used good is_zero x ≡ true
   slot_of x g z =
@@ -31,8 +31,8 @@ module _ {A : Type 0} {used good is_zero : A → Bool} {zero : A} {Good : A → 
         let at = all_slots (slot_test used good is_zero) zero (slot_of zero (λ u. absurd (not_both u d.zero_free)) (λ u. refl)) xs p.1 in
         record {
           size = p.0;
-          free_zero = λ i u. slot-zero (get_or xs i zero) u (at i);
-          used_good = λ i u. slot-good (get_or xs i zero) u (at i);
+          free_zero = λ i u. slot_zero (get_or xs i zero) u (at i);
+          used_good = λ i u. slot_good (get_or xs i zero) u (at i);
         },
     λ s.
         simp (slots_test, and_iff, eqb_iff)
@@ -41,8 +41,8 @@ module _ {A : Type 0} {used good is_zero : A → Bool} {zero : A} {Good : A → 
 
 module _ {A : Type 0} {used : A → Bool} {zero : A} {Good Good' : A → Type 0} {n : ℕ} {xs : List A} where
   -- used slots are as good by another measure
-  pub slots-good : ((x : A) → used x ≡ true → Good x → Good' x) → Slots used zero Good n xs → Slots used zero Good' n xs
-  slots-good g s =
+  pub slots_good : ((x : A) → used x ≡ true → Good x → Good' x) → Slots used zero Good n xs → Slots used zero Good' n xs
+  slots_good g s =
       record { size = s.size; free_zero = s.free_zero; used_good = λ i u. g (get_or xs i zero) u (s.used_good i u) }
 
 module _ {A : Type 0} {used : A → Bool} {zero : A} {Good : A → Type 0} {n : ℕ} {xs : List A} (s : Slots used zero Good n xs) where
@@ -75,13 +75,13 @@ module _ {A : Type 0} (used : A → Bool) (zero : A) (free : used zero ≡ false
     two_iff = (
       λ h i j b u w.
           (decides (get_or xs i zero) (get_or xs j zero)).0
-          (pairs_keep_at used r zero xs h i j b (used-below used zero free xs j w) u w),
+          (pairs_keep_at used r zero xs h i j b (used_below used zero free xs j w) u w),
       λ t. pairs_keep_of used r zero xs (λ i j b l u w. (decides (get_or xs i zero) (get_or xs j zero)).1 (t i j b u w)),
     )
 
 -- one slot takes a record that stands so to every used one
 module _ {A : Type 0} (used : A → Bool) (zero : A) (R : A → A → Type 0) (turn : (x y : A) → R x y → R y x) (xs : List A) where
-  pub two-set : EveryTwo used zero R xs → (i : ℕ) (y : A)
+  pub two_set : EveryTwo used zero R xs → (i : ℕ) (y : A)
       → ((j : ℕ) → used y ≡ true → used (get_or xs j zero) ≡ true → R y (get_or xs j zero)) → EveryTwo used zero R (set xs i y)
-  two-set t i y new =
+  two_set t i y new =
       set-pairs zero (λ a b. used a ≡ true → used b ≡ true → R a b) (λ a b h u w. turn a b (h w u)) xs i y new t

@@ -1,9 +1,9 @@
 -- The streams table: the test answers true exactly when the statements hold.
 use Rattle.base.{specs.Base.{◌<◌, ◌≡◌, true, false, not, ◌&&◌, List, ◌↔◌, length, is_empty, all_from, count, keep, pairs, same, root, is_used, is_directory, file_used, BareStream, zero_bare, bare_used, bare_at, FileNo, StreamNo, File}, proofs.Laws.{refl, ap, and_iff, not_iff, eqb_iff, beq_iff, exclude_iff, guard_iff, same_iff, count-keep}}
-use Rattle.lists.proofs.Places.{used-below}
+use Rattle.lists.proofs.Places.{used_below}
 use Rattle.stored_names.specs.StoredNames.{units}
 use Rattle.tables.specs.Tables.{file_at}
-use Rattle.consistency.proofs.{Slots.{Decides, slots_iff, two_iff}, Relations.{stream_of_iff, unnamed_iff}, Numbered.{same-file, unused, same_type, names_iff, directory-file, files-each}}
+use Rattle.consistency.proofs.{Slots.{Decides, slots_iff, two_iff}, Relations.{stream_of_iff, unnamed_iff}, Numbered.{same-file, unused, same_type, names_iff, directory-file, files_each}}
 use Rattle.consistency.specs.{Relations.{type_at, stream_of, unnamed_of}, Slots.EveryTwo, Good.{good_stream, is_zero_stream, stream_names_differ, StreamNamesDiffer}, Consistent.{GoodStreamOf, StreamsConsistent}, Test.{good_stream_of, streams_of_file, streams_test}}
 
 -- a marked stream is a named one
@@ -44,7 +44,7 @@ stream_decides fs =
 
 pub stream_in : (ss : List BareStream) (s : StreamNo) → bare_used (bare_at ss s) ≡ true → s.0 < length ss
 unfolding bare_at bare_used is_used
-stream_in ss s u = used-below bare_used zero_bare refl ss s.0 u
+stream_in ss s u = used_below bare_used zero_bare refl ss s.0 u
 
 name_test : (s t : BareStream) → (stream_names_differ s t ≡ true) ↔ StreamNamesDiffer s t
 unfolding stream_names_differ
@@ -55,28 +55,28 @@ unfolding bare_used is_used
 stream_names_iff = two_iff bare_used zero_bare refl stream_names_differ StreamNamesDiffer name_test
 
 -- the streams of a file are counted among the used slots as among all
-pub streams-kept : (f : FileNo) (ss : List BareStream) → count (stream_of f) (keep bare_used ss) ≡ count (stream_of f) ss
-streams-kept f ss = count-keep bare_used (stream_of f) (λ s h. ((stream_of_iff f s).0 h).0) ss
+pub streams_kept : (f : FileNo) (ss : List BareStream) → count (stream_of f) (keep bare_used ss) ≡ count (stream_of f) ss
+streams_kept f ss = count-keep bare_used (stream_of f) (λ s h. ((stream_of_iff f s).0 h).0) ss
 
-pub unnamed-kept : (f : FileNo) (ss : List BareStream) → count (unnamed_of f) (keep bare_used ss) ≡ count (unnamed_of f) ss
-unnamed-kept f ss = count-keep bare_used (unnamed_of f) (λ s h. ((stream_of_iff f s).0 ((unnamed_iff f s).0 h).0).0) ss
+pub unnamed_kept : (f : FileNo) (ss : List BareStream) → count (unnamed_of f) (keep bare_used ss) ≡ count (unnamed_of f) ss
+unnamed_kept f ss = count-keep bare_used (unnamed_of f) (λ s h. ((stream_of_iff f s).0 ((unnamed_iff f s).0 h).0).0) ss
 
 -- a file's test, over all the streams
 abbrev FileStreams : List BareStream → FileNo → File → Type 0
 FileStreams ss n f = (count (unnamed_of n) ss ≡ 1) × (is_directory f.file_type ≡ true → count (stream_of n) ss ≡ 1)
 
-file-streams : (ss : List BareStream) (n : FileNo) (f : File)
+file_streams : (ss : List BareStream) (n : FileNo) (f : File)
     → (streams_of_file (keep bare_used ss) n.0 f ≡ true) ↔ (file_used f ≡ true → FileStreams ss n f)
 unfolding streams_of_file
-file-streams ss n f = (
-  λ h. simp (streams_of_file, guard_iff, and_iff, eqb_iff, unnamed-kept, streams-kept) at h,
-  λ h. simp (streams_of_file, guard_iff, and_iff, eqb_iff, unnamed-kept, streams-kept) h,
+file_streams ss n f = (
+  λ h. simp (streams_of_file, guard_iff, and_iff, eqb_iff, unnamed_kept, streams_kept) at h,
+  λ h. simp (streams_of_file, guard_iff, and_iff, eqb_iff, unnamed_kept, streams_kept) h,
 )
 
 files_streamed : (fs : List File) (ss : List BareStream)
     → (all_from (streams_of_file (keep bare_used ss)) 0 fs ≡ true)
     ↔ ((f : FileNo) → file_used (file_at fs f) ≡ true → FileStreams ss f (file_at fs f))
-files_streamed fs ss = files-each (streams_of_file (keep bare_used ss)) (FileStreams ss) (file-streams ss) fs
+files_streamed fs ss = files_each (streams_of_file (keep bare_used ss)) (FileStreams ss) (file_streams ss) fs
 
 pub streams_iff : (fs : List File) (ss : List BareStream) → (streams_test fs ss ≡ true) ↔ StreamsConsistent fs ss
 unfolding streams_test

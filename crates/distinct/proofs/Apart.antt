@@ -37,16 +37,16 @@ module _ (keys : List ℕ) where
   apart_none j b = absurd (let z : ⊥ = omega arith in z)
 
   module _ (i : ℕ) where
-    pub apart-past : Apart i → (is_key (get_or keys i 0) ≡ true → found keys (get_or keys i 0) i ≡ false) → Apart (i + 1)
-    apart-past a n j b u =
+    pub apart_past : Apart i → (is_key (get_or keys i 0) ≡ true → found keys (get_or keys i 0) i ≡ false) → Apart (i + 1)
+    apart_past a n j b u =
         elim (ℕ_discrete j i) [
           | yes e ↦ rw e (n (rw e at u))
           | no d ↦ a j (omega arith) u
         ]
 
-    pub distinct-all : length keys ≤ i → Apart i → pairs differ (keep is_key keys) ≡ true
+    pub distinct_all : length keys ≤ i → Apart i → pairs differ (keep is_key keys) ≡ true
     unfolding differ
-    distinct-all l a =
+    distinct_all l a =
         pairs_keep_of is_key differ 0 keys
         (λ j k b c u v. not_is (found_none (get_or keys k 0) k (a k (omega arith) v) j b))
 

@@ -10,47 +10,47 @@ own_bucket k u = and_both u (eq-eqb (bucket_of k) (bucket_of k) refl)
 module _ (keys : List ℕ) where
   -- one place more
   module _ (h i : ℕ) where
-    pub last-here : in_bucket h (get_or keys i 0) ≡ true → last keys h (suc i) ≡ suc i
+    pub last_here : in_bucket h (get_or keys i 0) ≡ true → last keys h (suc i) ≡ suc i
     unfolding last
-    last-here e = cond_true (suc i) (last keys h i) e
+    last_here e = cond_true (suc i) (last keys h i) e
 
-    pub last-past : in_bucket h (get_or keys i 0) ≡ false → last keys h (suc i) ≡ last keys h i
+    pub last_past : in_bucket h (get_or keys i 0) ≡ false → last keys h (suc i) ≡ last keys h i
     unfolding last
-    last-past e = cond_false (suc i) (last keys h i) e
+    last_past e = cond_false (suc i) (last keys h i) e
 
   module _ (k : ℕ) {at : ℕ} (m : ℕ) (e : at ≡ suc m) where
     pub found_here : get_or keys m 0 ≡ k → found keys k at ≡ true
     unfolding found
     found_here q = rw (e, eq-eqb (get_or keys m 0) k q)
 
-    pub found-past : (get_or keys m 0 ≡ k → ⊥) → found keys k at ≡ found keys k m
+    pub found_past : (get_or keys m 0 ≡ k → ⊥) → found keys k at ≡ found keys k m
     unfolding found
-    found-past d = rw (e, ne_eqb (get_or keys m 0) k d)
+    found_past d = rw (e, ne_eqb (get_or keys m 0) k d)
 
-  pub last-below : (h i : ℕ) → last keys h i ≤ i
+  pub last_below : (h i : ℕ) → last keys h i ≤ i
   unfolding last
-  last-below h zero = omega arith
-  last-below h (suc i) =
-      by_cases (in_bucket h (get_or keys i 0)) (λ e. omega (arith, last-here h i e))
-      (λ e. omega (arith, last-past h i e, last-below h i))
+  last_below h zero = omega arith
+  last_below h (suc i) =
+      by_cases (in_bucket h (get_or keys i 0)) (λ e. omega (arith, last_here h i e))
+      (λ e. omega (arith, last_past h i e, last_below h i))
 
-  pub last-points : (h i : ℕ) → last keys h (last keys h i) ≡ last keys h i
+  pub last_points : (h i : ℕ) → last keys h (last keys h i) ≡ last keys h i
   unfolding last
-  last-points h zero = refl
-  last-points h (suc i) =
-      by_cases (in_bucket h (get_or keys i 0)) (λ e. ap (last keys h) (last-here h i e))
-      (λ e. rw (last-past h i e) (last-points h i))
+  last_points h zero = refl
+  last_points h (suc i) =
+      by_cases (in_bucket h (get_or keys i 0)) (λ e. ap (last keys h) (last_here h i e))
+      (λ e. rw (last_past h i e) (last_points h i))
 
   -- between the last key of its bucket and place i, k does not stand
-  pub found-last : (k i : ℕ) → is_key k ≡ true → found keys k (last keys (bucket_of k) i) ≡ found keys k i
+  pub found_last : (k i : ℕ) → is_key k ≡ true → found keys k (last keys (bucket_of k) i) ≡ found keys k i
   unfolding last
-  found-last k zero u = refl
-  found-last k (suc i) u =
-      by_cases (in_bucket (bucket_of k) (get_or keys i 0)) (λ e. ap (found keys k) (last-here (bucket_of k) i e))
+  found_last k zero u = refl
+  found_last k (suc i) u =
+      by_cases (in_bucket (bucket_of k) (get_or keys i 0)) (λ e. ap (found keys k) (last_here (bucket_of k) i e))
       (λ e.
-      ap (found keys k) (last-past (bucket_of k) i e)
-      ∙ found-last k i u
-      ∙ sym (found-past k i refl (λ q. not_both (rw q (own_bucket k u)) e)))
+      ap (found keys k) (last_past (bucket_of k) i e)
+      ∙ found_last k i u
+      ∙ sym (found_past k i refl (λ q. not_both (rw q (own_bucket k u)) e)))
 
 -- one step along a chain: `at` points to place m
 pub record Step (keys next : List ℕ) (at m key : ℕ) : Type 0 where
@@ -65,7 +65,7 @@ module _ {keys next : List ℕ} {at key : ℕ} (m : ℕ) (e : at ≡ suc m) (c :
       by_cases (in_bucket (bucket_of key) (get_or keys m 0)) (λ e. e)
       (λ n.
       absurd
-      (let z : ⊥ = omega (arith, last-past keys (bucket_of key) m n, last-below keys (bucket_of key) m, rw e at c.points) in z))
+      (let z : ⊥ = omega (arith, last_past keys (bucket_of key) m n, last_below keys (bucket_of key) m, rw e at c.points) in z))
 
   pub step : (get_or keys m 0 ≡ key → ⊥) → Step keys next at m key
   step d =
@@ -74,17 +74,17 @@ module _ {keys next : List ℕ} {at key : ℕ} (m : ℕ) (e : at ≡ suc m) (c :
       let f : get_or next m 0 ≡ last keys (bucket_of key) m =
       c.linked m (omega arith) (and_left (is_key x) (eqb (bucket_of x) (bucket_of key)) p)
       ∙ ap (λ (h : ℕ). last keys h m) (eqb-true (bucket_of x) (bucket_of key) (and_right (is_key x) _ p)) in
-      let b = last-below keys (bucket_of key) m in
+      let b = last_below keys (bucket_of key) m in
       record {
         falls = omega arith;
         rest = record {
           counts = c.counts;
           in_keys = omega (arith, c.in_keys);
           in_next = omega (arith, c.in_next);
-          points = rw f (last-points keys (bucket_of key) m);
+          points = rw f (last_points keys (bucket_of key) m);
           linked = λ j l. c.linked j (omega arith);
         };
-        same = rw f (found-past keys key m e d ∙ sym (found-last keys key m c.counts));
+        same = rw f (found_past keys key m e d ∙ sym (found_last keys key m c.counts));
       }
 
 -- the pointer at a place leads back, and is what stands there where that does

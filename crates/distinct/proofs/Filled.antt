@@ -1,7 +1,7 @@
 -- The arrays after the keys before place i: each bucket's head and each key's pointer are what `last` says.
 use Rattle.base.{specs.Base.{ℕ, ◌+◌, ◌≤◌, ◌<◌, ◌≡◌, true, false, List, length, get_or, set, replicate}, proofs.Laws.{refl, get_or-replicate, sym, ◌∙◌, ap, ⊎_elim, arith, length-set, not_both, set_cases, eqb-true, refuted, and_left, and_right}}
 use native.Mathlib.Numerals.{add-one}
-use Rattle.distinct.proofs.Chains.{own_bucket, last-here, last-past, last-below, last-points, found-last}
+use Rattle.distinct.proofs.Chains.{own_bucket, last_here, last_past, last_below, last_points, found_last}
 use Rattle.distinct.specs.{Keys.is_key, Buckets.{buckets, held, bucket_of, in_bucket, found, last, Linked, Chain}}
 
 pub record Filled (keys head next : List ℕ) (i : ℕ) : Type 0 where
@@ -32,18 +32,18 @@ module _ {keys head next : List ℕ} {i : ℕ} (filled : Filled keys head next i
 
     pub chain : i ≤ length keys → i ≤ held → Chain keys next (get_or head (bucket_of key) 0) key
     chain a b =
-        let l = last-below keys (bucket_of key) i in
+        let l = last_below keys (bucket_of key) i in
         let e = head_is in
         record {
           counts = u;
           in_keys = omega arith;
           in_next = omega (arith, filled.next_size);
-          points = rw e (last-points keys (bucket_of key) i);
+          points = rw e (last_points keys (bucket_of key) i);
           linked = λ m h. filled.linked m (omega arith);
         }
 
     pub chain_finds : found keys key (get_or head (bucket_of key) 0) ≡ found keys key i
-    chain_finds = ap (found keys key) head_is ∙ found-last keys key i u
+    chain_finds = ap (found keys key) head_is ∙ found_last keys key i u
 
   abbrev here : ℕ
   here = get_or keys i 0
@@ -52,7 +52,7 @@ module _ {keys head next : List ℕ} {i : ℕ} (filled : Filled keys head next i
   kept : (h : ℕ) → (is_key here ≡ true → bucket_of here ≡ h → ⊥) → last keys h i ≡ last keys h (i + 1)
   kept h n =
       let other = refuted (in_bucket h here) (λ q. n (and_left (is_key here) _ q) (eqb-true (bucket_of here) h (and_right (is_key here) _ q))) in
-      rw add-one (sym (last-past keys h i other))
+      rw add-one (sym (last_past keys h i other))
 
   -- no key here
   pub fill_past : is_key here ≡ false → Filled keys head next (i + 1)
@@ -74,7 +74,7 @@ module _ {keys head next : List ℕ} {i : ℕ} (filled : Filled keys head next i
         head_size = length-set head g (i + 1) ∙ filled.head_size;
         next_size = length-set next i (get_or head g 0) ∙ filled.next_size;
         heads = λ h l.
-            ⊎_elim (λ q. q.1 ∙ rw (add-one, q.0) (sym (last-here keys g i (own_bucket here u))))
+            ⊎_elim (λ q. q.1 ∙ rw (add-one, q.0) (sym (last_here keys g i (own_bucket here u))))
             (λ q. q.1 ∙ filled.heads h l ∙ kept h (λ _ p. q.0 (sym p)))
             (set_cases head g h (i + 1) 0 (omega (arith, filled.head_size)));
         linked = λ m l v.

@@ -18,11 +18,11 @@ module _ (bytes : List ℕ) where
   no_masks masks long h =
       record { is = rw (ne_eqb (length bytes) (4 * accounts) h); within = omega arith; long = long }
 
-  pub masks-read : (masks : List ℕ) → length bytes ≡ 4 * accounts
+  pub masks_read : (masks : List ℕ) → length bytes ≡ 4 * accounts
       → masks ≡ decode_row (number 4) accounts (take (4 * accounts) bytes)
       → MasksRead (record { masks = masks; count = accounts }) bytes
   unfolding masks_of
-  masks-read masks long e =
+  masks_read masks long e =
       let l : length masks ≡ accounts = ap length e ∙ row_count (number 4) accounts _ in
       record {
         is =

@@ -24,11 +24,11 @@ module _ (r : Request) (units path : List ℕ)
   open_alike t = rw (decide_alike _ _)
 
 -- the access granted is seen as it stands
-granted-seen : (o : Outcome) (granted : ℕ) → granted ≡ (seen (record { outcome = o; granted = granted })).granted
+granted_seen : (o : Outcome) (granted : ℕ) → granted ≡ (seen (record { outcome = o; granted = granted })).granted
 unfolding seen
-granted-seen (Success x h) granted = refl
-granted-seen Done granted = refl
-granted-seen (Refused s) granted = refl
+granted_seen (Success x h) granted = refl
+granted_seen Done granted = refl
+granted_seen (Refused s) granted = refl
 
 module _ {a : Answer} where
   pub returned_status : {status : ℕ} {after : List ℕ} {s : Step (List ℕ)} → Answers a after s → status ≡ (answer_seen a).status
@@ -58,7 +58,7 @@ module _ {a : Answer} where
         record {
           returns =
               record {
-                numbers = rw (s, x, g ∙ granted-seen a.outcome a.granted, h) (ap open_numbers q.answers.reply);
+                numbers = rw (s, x, g ∙ granted_seen a.outcome a.granted, h) (ap open_numbers q.answers.reply);
                 bytes = q.answers.state;
               };
           tables = q.tables;

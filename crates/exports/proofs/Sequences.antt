@@ -2,10 +2,10 @@
 -- the calls as the model does, from the last format that succeeded.
 use Rattle.base.{specs.Base.{ℕ, ◌≡◌, Bool, true, false, cond, List, [], ◌∷◌, ◌++◌, length, get_or, replicate, seen, Reply, Seen, Tables, Step, done, refused_reply, InvalidParameter, ◌>>◌, refuse_if, concluded, Handle}, proofs.Laws.{refl, sym, ◌∙◌, ap, ap₂, and_both, by_cases, length-replicate}}
 use Rattle.audit.specs.Sound.{sound_bytes}
-use Rattle.call_contracts.{specs.Performs.StandFor, proofs.Sequences.{right_length, valid, format-left, agree-from, agree-related}}
+use Rattle.call_contracts.{specs.Performs.StandFor, proofs.Sequences.{right_length, valid, format-left, agree_from, agree_related}}
 use Rattle.consistency.{specs.Relations.valid_masks, proofs.Equivalence.consistent_iff}
-use Rattle.format.{specs.{Format.{checked_masks, format, fresh_tables}, Bytes.format_bytes}, proofs.{Bytes.{invalid-masks, formatted}, Decoded.tables-formatted}}
-use Rattle.layout.{specs.Layout.{tables_size, decode, stands_for_tables}, proofs.{Tables.stands-length, Calls.on-tables}}
+use Rattle.format.{specs.{Format.{checked_masks, format, fresh_tables}, Bytes.format_bytes}, proofs.{Bytes.{invalid_masks, formatted}, Decoded.tables-formatted}}
+use Rattle.layout.{specs.Layout.{tables_size, decode, stands_for_tables}, proofs.{Tables.stands_length, Calls.on-tables}}
 use Rattle.store.{specs.{Store.{store_open, store_close, store_set_read_only}, Model.{Model, fresh_model, model_format}, Calls.{Call, opens, closes, sets_read_only, run, store_step, model_step}, Sequences.Agree}, proofs.Sequences.Steps.together}
 use Rattle.exports.specs.{Interface.{flag, masks_of, path_of, request_of, status_alone, open_numbers, verdict}, Returns.{Returns, ReturnsOf}, Sequences.{HostCall, host_opens, host_closes, host_sets_read_only, call_of, numbers_of, Export, formats, calls, audits, Promises, Made, no_call, next_call, model_numbers, Since, begun, gone_on, since, store_run, model_run, AgreeInNumbers, EverySequenceOfExports}}
 
@@ -56,10 +56,10 @@ module _ (masks : List ℕ) (read_only : Bool) where
         rw (← (ap (λ (s : Step Tables). s.state) (tables-formatted bytes masks read_only long v)))
         (format-left bytes masks read_only success)
 
-    fresh-agree : (m : Model) (cs : List Call)
+    fresh_agree : (m : Model) (cs : List Call)
         → Agree (run store_step (fresh_tables masks read_only) cs) (run model_step (model_format m masks read_only).state cs)
-    fresh-agree m cs =
-        rw (tables-formatted bytes masks read_only long v) at (agree-from bytes masks read_only success m cs)
+    fresh_agree m cs =
+        rw (tables-formatted bytes masks read_only long v) at (agree_from bytes masks read_only success m cs)
 
 module _ (m : Model) where
   -- where a sequence stands: valid masks, and bytes that stand for the tables of the calls since
@@ -69,7 +69,7 @@ module _ (m : Model) where
 
   agree_at : (s : Since) → valid_masks s.masks ≡ true → Agree (store_run s) (model_run m s)
   agree_at s v =
-      fresh-agree s.masks s.read_only (replicate tables_size 0) (length-replicate {A = ℕ} tables_size 0) v m s.calls
+      fresh_agree s.masks s.read_only (replicate tables_size 0) (length-replicate {A = ℕ} tables_size 0) v m s.calls
 
   -- an exported call leads from one place to the next, and returns what the model answers
   record Leads (e : Export) (got after : List ℕ) (s : Since) : Type 0 where
@@ -83,7 +83,7 @@ module _ (m : Model) where
     agrees = agree_at s at.masks_valid
 
     long : length before ≡ tables_size
-    long = stands-length before at.stand_for.stands
+    long = stands_length before at.stand_for.stands
 
     -- the audit finds the tables sound
     sound : sound_bytes before ≡ true
@@ -104,13 +104,13 @@ module _ (m : Model) where
 
     -- a call on the bytes is the call on the tables, which the model answers alike
     module _ (got after : List ℕ) (c : HostCall) (p : Promises (calls c) got before after) where
-      same-numbers : got ≡ numbers_of c (seen (model_step (model_run m s).state (call_of c)).reply)
+      same_numbers_lem : got ≡ numbers_of c (seen (model_step (model_run m s).state (call_of c)).reply)
       unfolding Promises
-      same-numbers =
+      same_numbers_lem =
           p.returns.numbers
           ∙ ap (λ (r : Reply). numbers_of c (seen r))
           (rw (on-tables (λ t. store_step t (call_of c)) before at.stand_for.stands, at.stand_for.is)
-          (together (agree-related agrees) (call_of c)).same_reply)
+          (together (agree_related agrees) (call_of c)).same_reply)
 
       call_leads : Leads (calls c) got after s
       unfolding Promises since model_numbers
@@ -127,7 +127,7 @@ module _ (m : Model) where
                 };
             answered =
                 λ es.
-                ap₂ (λ (ns : List ℕ) (x : Model). ns ∷ model_numbers x es) same-numbers
+                ap₂ (λ (ns : List ℕ) (x : Model). ns ∷ model_numbers x es) same_numbers_lem
                 (run_more model_step (model_format m s.masks s.read_only).state s.calls (call_of c));
           }
 
@@ -152,23 +152,23 @@ module _ (m : Model) where
                 (p.numbers ∙ rw (formatted before (masks_of bytes) (flag mark) long v)));
           }
 
-      format-refused : valid_masks (masks_of bytes) ≡ false → Leads (formats bytes mark) got after s
+      format_refused_lem : valid_masks (masks_of bytes) ≡ false → Leads (formats bytes mark) got after s
       unfolding Promises since model_numbers
-      format-refused v =
+      format_refused_lem v =
           record {
             next = s;
             is = λ es. rw v;
-            there = rw (p.bytes, invalid-masks before (masks_of bytes) (flag mark) long v) at;
+            there = rw (p.bytes, invalid_masks before (masks_of bytes) (flag mark) long v) at;
             answered =
                 λ es.
                 rw (model_refused (masks_of bytes) (flag mark) (model_run m s).state v)
                 (ap (λ (ns : List ℕ). ns ∷ model_numbers (model_run m s).state es)
-                (p.numbers ∙ rw (invalid-masks before (masks_of bytes) (flag mark) long v)));
+                (p.numbers ∙ rw (invalid_masks before (masks_of bytes) (flag mark) long v)));
           }
 
     leads : (got after : List ℕ) (e : Export) → Promises e got before after → Leads e got after s
     leads got after (formats bytes mark) p =
-        by_cases (valid_masks (masks_of bytes)) (format-succeeds got after bytes mark p) (format-refused got after bytes mark p)
+        by_cases (valid_masks (masks_of bytes)) (format-succeeds got after bytes mark p) (format_refused_lem got after bytes mark p)
     leads got after (calls c) p = call_leads got after c p
     leads got after audits p = audit_leads got after p
 

@@ -11,9 +11,9 @@ unfolding valid_masks
 valid-count masks v = eqb-true (length masks) accounts (and_left (eqb (length masks) accounts) _ v)
 
 -- and are copied whole
-pub masks-whole : (masks : List ℕ) → length masks ≡ accounts → take accounts (padded accounts masks) ≡ masks
+pub masks_whole : (masks : List ℕ) → length masks ≡ accounts → take accounts (padded accounts masks) ≡ masks
 unfolding padded
-masks-whole masks e =
+masks_whole masks e =
     let none : accounts - length masks ≡ 0 = omega arith in
     rw (none, append-nil) (take_all accounts masks (omega arith))
 
@@ -24,10 +24,10 @@ module _ (bs masks : List ℕ) (read_only : Bool) where
   other_length n = rw (ne_eqb (length bs) tables_size n)
 
   module _ (long : length bs ≡ tables_size) where
-    pub invalid-masks : valid_masks masks ≡ false
+    pub invalid_masks : valid_masks masks ≡ false
         → format_bytes bs masks read_only ≡ record { reply = refused_reply InvalidParameter; state = bs }
     unfolding format_bytes checked_masks concluded refuse_if ◌>>◌
-    invalid-masks v = rw (eq-eqb (length bs) tables_size long, v)
+    invalid_masks v = rw (eq-eqb (length bs) tables_size long, v)
 
     pub formatted : valid_masks masks ≡ true → format_bytes bs masks read_only ≡ done (encode (fresh_tables masks read_only))
     unfolding format_bytes checked_masks concluded refuse_if ◌>>◌

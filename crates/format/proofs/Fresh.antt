@@ -14,21 +14,21 @@ tests = tt
 
 -- each table's test is computed, but for the root's masks
 module _ (masks : List ℕ) (read_only : Bool) (valid : valid_masks masks ≡ true) where
-  files-fresh : files_test (fresh_volume masks read_only).files ≡ true
+  files_fresh : files_test (fresh_volume masks read_only).files ≡ true
   unfolding tests
-  files-fresh = ap (λ (b : Bool). b && true) valid
+  files_fresh = ap (λ (b : Bool). b && true) valid
 
-  links-fresh : links_test (fresh_volume masks read_only).files (fresh_volume masks read_only).links ≡ true
+  links_fresh : links_test (fresh_volume masks read_only).files (fresh_volume masks read_only).links ≡ true
   unfolding tests
-  links-fresh = refl
+  links_fresh = refl
 
-  streams-fresh : streams_test (fresh_volume masks read_only).files (namespace (fresh_volume masks read_only)).streams ≡ true
+  streams_fresh : streams_test (fresh_volume masks read_only).files (namespace (fresh_volume masks read_only)).streams ≡ true
   unfolding tests
-  streams-fresh = refl
+  streams_fresh = refl
 
-  opens-fresh : opens_test (namespace (fresh_volume masks read_only)).streams (fresh_volume masks read_only).next_handle.0 fresh_opens.rows ≡ true
+  opens_fresh : opens_test (namespace (fresh_volume masks read_only)).streams (fresh_volume masks read_only).next_handle.0 fresh_opens.rows ≡ true
   unfolding tests
-  opens-fresh = refl
+  opens_fresh = refl
 
   counts-fresh : counts_test (fresh_volume masks read_only).streams fresh_opens.rows ≡ true
   unfolding tests
@@ -47,5 +47,5 @@ module _ (masks : List ℕ) (read_only : Bool) (valid : valid_masks masks ≡ tr
   fresh-consistent =
       (consistent_iff (fresh_volume masks read_only) fresh_opens).0
       (and_both
-      (and_both (and_both (and_both (and_both (and_both files-fresh links-fresh) streams-fresh) opens-fresh) counts-fresh) conflicts-fresh)
+      (and_both (and_both (and_both (and_both (and_both files_fresh links_fresh) streams_fresh) opens_fresh) counts-fresh) conflicts-fresh)
       marks-fresh)

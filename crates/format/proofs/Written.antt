@@ -1,7 +1,7 @@
 -- Format's writes, one after the other: cleared bytes become those of fresh tables.
 use Rattle.base.{specs.Base.{ℕ, ◌≡◌, true, Bool, List, length, replicate, root, Tables, Handle, StreamNo}, proofs.Laws.{sym, ◌∙◌, ap, length-replicate}}
-use Rattle.codecs.proofs.Zeros.{Zeros, replicate-zeros}
-use Rattle.layout.{specs.{Layout.{tables_size, encode, decode, stands_for_tables, Changed}, Puts.{put_mark, put_next, put_file, put_stream}}, proofs.{Tables.encode-decode, Zeros.{zeros-tables, zeros-stand}}}
+use Rattle.codecs.proofs.Zeros.{Zeros, replicate_zeros}
+use Rattle.layout.{specs.{Layout.{tables_size, encode, decode, stands_for_tables, Changed}, Puts.{put_mark, put_next, put_file, put_stream}}, proofs.{Tables.encode-decode, Zeros.{zeros_tables, zeros_stand}}}
 use Rattle.little_endian.specs.LittleEndian.{Bytes}
 use Rattle.format.specs.Format.{root_file, root_stream, fresh_volume, fresh_tables}
 
@@ -19,22 +19,22 @@ module _ (masks : List ℕ) (read_only : Bool) (b l m n o p : List ℕ) (long : 
     (file : Changed n o (put_file (decode n) root (root_file masks)))
     (stream : Changed o p (put_stream (decode o) first_stream root_stream)) where
   zeros : Zeros l
-  zeros = rw cleared (replicate-zeros (length b))
+  zeros = rw cleared (replicate_zeros (length b))
 
-  written-tables : decode p ≡ fresh_tables masks read_only
+  written_tables : decode p ≡ fresh_tables masks read_only
   unfolding fresh_tables fresh_volume
-  written-tables =
+  written_tables =
       stream.is
       ∙ ap (λ (t : Tables). put_stream t first_stream root_stream)
       (file.is
       ∙ ap (λ (t : Tables). put_file t root (root_file masks))
       (next.is
-      ∙ ap (λ (t : Tables). put_next t first_handle) (mark.is ∙ ap (λ (t : Tables). put_mark t read_only) (zeros-tables l zeros))))
+      ∙ ap (λ (t : Tables). put_next t first_handle) (mark.is ∙ ap (λ (t : Tables). put_mark t read_only) (zeros_tables l zeros))))
 
   written_stands : stands_for_tables p ≡ true
   written_stands =
       let size : length l ≡ tables_size = rw cleared (length-replicate {A = ℕ} (length b) 0 ∙ long) in
-      stream.stays (file.stays (next.stays (mark.stays (zeros-stand l zeros size))))
+      stream.stays (file.stays (next.stays (mark.stays (zeros_stand l zeros size))))
 
   pub written : Bytes p → p ≡ encode (fresh_tables masks read_only)
-  written bytes = sym (encode-decode p bytes written_stands) ∙ ap encode written-tables
+  written bytes = sym (encode-decode p bytes written_stands) ∙ ap encode written_tables

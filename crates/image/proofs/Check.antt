@@ -31,7 +31,7 @@ summed_next bs sum i s h b =
     }
 
 -- the lowest two bytes of a sum are those of the sum modulo 65,536
-pub check-bytes : (x : ℕ) → to_bytes 2 (x % 65536) ≡ to_bytes 2 x
+pub check_bytes : (x : ℕ) → to_bytes 2 (x % 65536) ≡ to_bytes 2 x
 unfolding to_bytes
-check-bytes x =
+check_bytes x =
     sym (ap (to_bytes 2) (sym (mod-add-div x 65536)) ∙ to_sum 2 0 (x % 65536) (x / 65536) (mod-lt x (omega arith)) ∙ append-nil (to_bytes 2 (x % 65536)))

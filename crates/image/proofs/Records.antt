@@ -8,21 +8,21 @@ pub header_record : (n : ℕ) → n ≡ 0 → record_of n ≡ Header
 unfolding record_of
 header_record n e = rw (eq-eqb n 0 e)
 
-pub file-record : (n : ℕ) → (n ≡ 0 → ⊥) → n ≤ file_slots → record_of n ≡ FileSlot (n - 1)
+pub file_record : (n : ℕ) → (n ≡ 0 → ⊥) → n ≤ file_slots → record_of n ≡ FileSlot (n - 1)
 unfolding record_of
-file-record n h l = rw (ne_eqb n 0 h, le-leb n file_slots l)
+file_record n h l = rw (ne_eqb n 0 h, le-leb n file_slots l)
 
-pub link-record : (n : ℕ) → file_slots < n → n ≤ file_slots + link_slots → record_of n ≡ LinkSlot (n - 1 - file_slots)
+pub link_record : (n : ℕ) → file_slots < n → n ≤ file_slots + link_slots → record_of n ≡ LinkSlot (n - 1 - file_slots)
 unfolding record_of
-link-record n h l =
+link_record n h l =
     rw (ne_eqb n 0 (λ e. let z : ⊥ = omega arith in z), lt-leb n file_slots h, le-leb n (file_slots + link_slots) l)
 
-pub stream-record : (n : ℕ) → file_slots + link_slots < n → n < image_blocks → record_of n ≡ StreamSlot (n - 1 - file_slots - link_slots)
+pub stream_record : (n : ℕ) → file_slots + link_slots < n → n < image_blocks → record_of n ≡ StreamSlot (n - 1 - file_slots - link_slots)
 unfolding record_of
-stream-record n h l =
+stream_record n h l =
     rw (ne_eqb n 0 (λ e. let z : ⊥ = omega arith in z), lt-leb n file_slots (omega arith), lt-leb n (file_slots + link_slots) h, lt-ltb n image_blocks l)
 
-pub past-record : (n : ℕ) → image_blocks ≤ n → record_of n ≡ Past
+pub past_record : (n : ℕ) → image_blocks ≤ n → record_of n ≡ Past
 unfolding record_of
-past-record n h =
+past_record n h =
     rw (ne_eqb n 0 (λ e. let z : ⊥ = omega arith in z), lt-leb n file_slots (omega arith), lt-leb n (file_slots + link_slots) (omega arith), le-ltb n image_blocks h)

@@ -2,7 +2,7 @@
 use Prim.Native.Nat.{◌^◌}
 use mathlib.Core.Bool.{and_assoc}
 use lib.Seq.{drop-drop, take-take}
-use Rattle.base.{specs.Base.{ℕ, ◌+◌, ◌-◌, ◌<◌, ◌≡◌, Bool, ◌&&◌, List, [], ◌∷◌, ◌++◌, eqb, length, take, drop, same}, proofs.Laws.{refl, sym, ◌∙◌, ap, ap₂, arith, by_cases, refuted, eqb-true, eqb-false, same-is, same_self}}
+use Rattle.base.{specs.Base.{ℕ, ◌+◌, ◌-◌, ◌<◌, ◌≡◌, Bool, ◌&&◌, List, [], ◌∷◌, ◌++◌, eqb, length, take, drop, same}, proofs.Laws.{refl, sym, ◌∙◌, ap, ap₂, arith, by_cases, refuted, eqb-true, eqb-false, same_is, same_self}}
 use Rattle.little_endian.{specs.LittleEndian.{from_bytes, to_bytes, part, Bytes}, proofs.{Parts.drop-take, Numbers.{from_to, to_from}}}
 
 -- a list against one list and another after it
@@ -31,4 +31,4 @@ same_number bs w x bytes e fits =
     rw (is, t) (same_self bs))
     (λ f.
     rw f
-    (refuted (same bs (to_bytes w x)) (λ s. eqb-false (from_bytes bs) x f (ap from_bytes (same-is bs (to_bytes w x) s) ∙ from_to w x fits))))
+    (refuted (same bs (to_bytes w x)) (λ s. eqb-false (from_bytes bs) x f (ap from_bytes (same_is bs (to_bytes w x) s) ∙ from_to w x fits))))

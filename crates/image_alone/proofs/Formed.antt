@@ -4,11 +4,11 @@ use borrow.Author.Tests.{lt-ltb}
 use mathlib.Core.Bool.{and-true, and-false}
 use lib.{ListN.length-append, Seq.{drop-drop, take-take}}
 use native.Mathlib.Nat.{mod-lt, zero-add}
-use Rattle.base.{specs.Base.{ℕ, ◌+◌, ◌-◌, ◌≤◌, ◌<◌, ◌≡◌, Bool, not, ◌&&◌, List, ◌++◌, eqb, ltb, length, take, drop, replicate, same, padded, file_slots, link_slots, stream_slots}, proofs.Laws.{refl, sym, ◌∙◌, ap, ap₂, arith, by_cases, ltb-false, same-is, same_self, take_all, length-drop, length-replicate}}
+use Rattle.base.{specs.Base.{ℕ, ◌+◌, ◌-◌, ◌≤◌, ◌<◌, ◌≡◌, Bool, not, ◌&&◌, List, ◌++◌, eqb, ltb, length, take, drop, replicate, same, padded, file_slots, link_slots, stream_slots}, proofs.Laws.{refl, sym, ◌∙◌, ap, ap₂, arith, by_cases, ltb-false, same_is, same_self, take_all, length-drop, length-replicate}}
 use Rattle.little_endian.{specs.LittleEndian.{from_bytes, to_bytes, part, Bytes}, proofs.{Parts.drop-take, Numbers.to_bytes-length}}
 use Rattle.layout.specs.Kinds.{marks}
-use Rattle.codecs.proofs.{Bytes.{take-bytes, drop-bytes}, Fields.part_length}
-use Rattle.image.{specs.{Blocks.{block_size, check_at, number_size, edition, image_blocks, byte_sum, check, block, record_of, size_of, preface, record_at}, Alone.{record_in, well_formed, header_alone, record_alone, block_alone}, declared.BlockRecord.{BlockRecord, TheVariants.{Header, FileSlot, LinkSlot, StreamSlot, Past}}}, proofs.{Check.check-bytes, Records.past-record}}
+use Rattle.codecs.proofs.{Bytes.{take_bytes, drop_bytes}, Fields.part_length}
+use Rattle.image.{specs.{Blocks.{block_size, check_at, number_size, edition, image_blocks, byte_sum, check, block, record_of, size_of, preface, record_at}, Alone.{record_in, well_formed, header_alone, record_alone, block_alone}, declared.BlockRecord.{BlockRecord, TheVariants.{Header, FileSlot, LinkSlot, StreamSlot, Past}}}, proofs.{Check.check_bytes, Records.past_record}}
 use Rattle.image_alone.proofs.Compared.{same-split, same_parts, same_number}
 
 -- the tests
@@ -29,24 +29,24 @@ abbrev checks : List ℕ → Bool
 checks b = eqb (from_bytes (part b check_at 2)) (byte_sum (take check_at b) % 65536)
 
 -- every record ends before the check
-pub record-fits : (r : BlockRecord) → record_end r < check_at
+pub record_fits : (r : BlockRecord) → record_end r < check_at
 unfolding record_at preface size_of to_bytes
-record-fits Header = omega arith
-record-fits (FileSlot k) = omega arith
-record-fits (LinkSlot k) = omega arith
-record-fits (StreamSlot k) = omega arith
-record-fits Past = omega arith
+record_fits Header = omega arith
+record_fits (FileSlot k) = omega arith
+record_fits (LinkSlot k) = omega arith
+record_fits (StreamSlot k) = omega arith
+record_fits Past = omega arith
 
 module _ (b : List ℕ) (long : length b ≡ block_size) (bytes : Bytes b) where
   -- a number at a place of a block
   number_at : (at w x : ℕ) → at + w ≤ block_size → x < 256 ^ w → same (part b at w) (to_bytes w x) ≡ eqb (from_bytes (part b at w)) x
   number_at at w x h fits =
-      same_number (part b at w) w x (take-bytes w (drop at b) (drop-bytes at b bytes)) (part_length b at w (omega arith)) fits
+      same_number (part b at w) w x (take_bytes w (drop at b) (drop_bytes at b bytes)) (part_length b at w (omega arith)) fits
 
-  check-at : same (drop check_at b) (check (take check_at b)) ≡ checks b
-  check-at =
+  check_at_lem : same (drop check_at b) (check (take check_at b)) ≡ checks b
+  check_at_lem =
       let sum = byte_sum (take check_at b) in
-      ap₂ same (sym (take_all 2 (drop check_at b) (rw length-drop (omega arith)))) (sym (check-bytes sum))
+      ap₂ same (sym (take_all 2 (drop check_at b) (rw length-drop (omega arith)))) (sym (check_bytes sum))
       ∙ number_at check_at 2 (sum % 65536) (omega arith) (mod-lt sum (omega arith))
 
   -- the check that a block should have is over bytes that it should have; where it has these, over its own
@@ -54,7 +54,7 @@ module _ (b : List ℕ) (long : length b ≡ block_size) (bytes : Bytes b) where
   checked front e =
       same-split b front (check front)
       ∙ rw e
-      (by_cases (same (take check_at b) front) (λ t. rw t (rw (← same-is (take check_at b) front t) check-at)) (λ f. rw f))
+      (by_cases (same (take check_at b) front) (λ t. rw t (rw (← same_is (take check_at b) front t) check_at_lem)) (λ f. rw f))
 
   -- edition and slot counts, each at its place
   pub header_preface : prefaced Header b
@@ -85,12 +85,12 @@ module _ (b : List ℕ) (long : length b ≡ block_size) (bytes : Bytes b) where
     up_to_record : length (to_bytes number_size n ++ (preface r ++ record_in r b)) ≡ record_end r
     unfolding record_in record_at
     up_to_record =
-        let fits = record-fits r in
+        let fits = record_fits r in
         simp (length-append, to_bytes-length, part_length b (record_at r) (size_of r) (omega arith)) (omega arith)
 
-    own-record : same (part b number_size (length (preface r) + size_of r)) (preface r ++ record_in r b) ≡ prefaced r b
+    own_record : same (part b number_size (length (preface r) + size_of r)) (preface r ++ record_in r b) ≡ prefaced r b
     unfolding record_in record_at
-    own-record =
+    own_record =
         same_parts b number_size (length (preface r)) (size_of r) (preface r) (record_in r b) refl
         ∙ rw (same_self (record_in r b)) (and-true (prefaced r b))
 
@@ -101,14 +101,14 @@ module _ (b : List ℕ) (long : length b ≡ block_size) (bytes : Bytes b) where
         let long : record_end r ≡ number_size + (length (preface r) + size_of r) = omega arith in
         ap (λ (l : ℕ). same (part b 0 l) (to_bytes number_size n ++ content)) long
         ∙ same_parts b 0 number_size (length (preface r) + size_of r) (to_bytes number_size n) content (to_bytes-length number_size n)
-        ∙ ap₂ (λ (h t : Bool). h && t) (number_at 0 number_size n (omega arith) (omega arith)) own-record
+        ∙ ap₂ (λ (h t : Bool). h && t) (number_at 0 number_size n (omega arith) (omega arith)) own_record
 
     block-parts : same b (block n (preface r ++ record_in r b)) ≡ (numbered n b && prefaced r b && clear_after r b && checks b)
     unfolding block padded
     block-parts =
         let content = to_bytes number_size n ++ (preface r ++ record_in r b) in
         let end = record_end r in
-        let fits : end < check_at = record-fits r in
+        let fits : end < check_at = record_fits r in
         let zeros : List ℕ = replicate (check_at - end) 0 in
         let padding : padded check_at content ≡ content ++ zeros =
         ap (λ (l : ℕ). content ++ replicate (check_at - l) 0) up_to_record in
@@ -137,7 +137,7 @@ pub alone_within : (n : ℕ) (b : List ℕ)
 unfolding block_alone record_alone
 alone_within n b =
     by_cases (ltb n image_blocks) (λ t. rw t)
-    (λ f. rw f (rw (past-record n (ltb-false n image_blocks f)) (and-false (well_formed n b))))
+    (λ f. rw f (rw (past_record n (ltb-false n image_blocks f)) (and-false (well_formed n b))))
 
 -- the header's record: its mark at 12, and the next handle after it
 pub header_parts : (b : List ℕ) → header_alone (record_in Header b)

@@ -7,7 +7,7 @@ use Rattle.codecs.proofs.Fields.{part_length}
 use Rattle.image.specs.{Blocks.{block_size, number_size, check_at, image_blocks, block, record_of, place_of, size_of, preface, record_at, block_of, blocks_of}, Alone.{record_in, well_formed}, declared.BlockRecord.{BlockRecord, TheVariants.{Header, FileSlot, LinkSlot, StreamSlot, Past}}}
 use Rattle.layout.specs.Layout.{tables_size}
 use Rattle.little_endian.{specs.LittleEndian.{to_bytes, part}, proofs.Numbers.to_bytes-length}
-use Rattle.image_laws.proofs.Places.{record-ends}
+use Rattle.image_laws.proofs.Places.{record_ends}
 
 padded-length : (n : ℕ) (xs : List ℕ) → length xs ≤ n → length (padded n xs) ≡ n
 unfolding padded
@@ -22,13 +22,13 @@ midst a f x y z p q =
     (rw (drop-append-add a (f ++ (x ++ (y ++ z))) (length f), drop-append_seam f (x ++ (y ++ z)), take-append_seam x (y ++ z))))
 
 -- what stands before a record and the record fit a block
-pub record-fits : (r : BlockRecord) → number_size + (length (preface r) + size_of r) ≤ check_at
+pub record_fits : (r : BlockRecord) → number_size + (length (preface r) + size_of r) ≤ check_at
 unfolding preface size_of
-record-fits Header = simp (length-append, to_bytes-length) (omega arith)
-record-fits (FileSlot k) = omega arith
-record-fits (LinkSlot k) = omega arith
-record-fits (StreamSlot k) = omega arith
-record-fits Past = omega arith
+record_fits Header = simp (length-append, to_bytes-length) (omega arith)
+record_fits (FileSlot k) = omega arith
+record_fits (LinkSlot k) = omega arith
+record_fits (StreamSlot k) = omega arith
+record_fits Past = omega arith
 
 module _ (n : ℕ) (content : List ℕ) (fits : number_size + length content ≤ check_at) where
   front_length : length (padded check_at (to_bytes number_size n ++ content)) ≡ check_at
@@ -51,7 +51,7 @@ module _ (bs : List ℕ) where
   block_of-length n =
       let r = record_of n in
       block-length n _
-      (simp (length-append, length-take) (omega (arith, record-fits r)))
+      (simp (length-append, length-take) (omega (arith, record_fits r)))
 
   pub blocks_length : (n k : ℕ) → length (blocks_of bs n k) ≡ block_size * k
   unfolding blocks_of
@@ -65,13 +65,13 @@ module _ (bs : List ℕ) where
       rw (suc-add, blocks_of, blocks_add (suc n) j k, append_assoc, suc-add, add-suc)
 
   module _ (long : length bs ≡ tables_size) (n : ℕ) (h : n < image_blocks) where
-    pub record-length : length (part bs (place_of (record_of n)) (size_of (record_of n))) ≡ size_of (record_of n)
-    record-length = part_length bs (place_of (record_of n)) (size_of (record_of n)) (omega (arith, record-ends n h))
+    pub record_length : length (part bs (place_of (record_of n)) (size_of (record_of n))) ≡ size_of (record_of n)
+    record_length = part_length bs (place_of (record_of n)) (size_of (record_of n)) (omega (arith, record_ends n h))
 
     pub record_in_block : record_in (record_of n) (block_of bs n) ≡ part bs (place_of (record_of n)) (size_of (record_of n))
     unfolding block_of
-    record_in_block = record_in_lem n (record_of n) _ record-length
+    record_in_block = record_in_lem n (record_of n) _ record_length
 
-    pub well-formed : well_formed n (block_of bs n) ≡ true
+    pub well_formed_lem : well_formed n (block_of bs n) ≡ true
     unfolding well_formed block_of
-    well-formed = rw record_in_block (same_self (block_of bs n))
+    well_formed_lem = rw record_in_block (same_self (block_of bs n))

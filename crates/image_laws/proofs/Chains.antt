@@ -38,7 +38,7 @@ module _ {S : Type 0} where
       let z : ◌≡◌ {A = ℕ} 0 1 = cc in
       omega arith
 
-  pub done-passed : (s : S) (c : Checked (Step S)) {t : S} → concluded s c ≡ done t → c ≡ passed (done t)
+  pub done_passed : (s : S) (c : Checked (Step S)) {t : S} → concluded s c ≡ done t → c ≡ passed (done t)
   unfolding concluded
-  done-passed s (refused r) e = absurd (not_refused e)
-  done-passed s (passed x) e = ap (λ (y : Step S). passed y) e
+  done_passed s (refused r) e = absurd (not_refused e)
+  done_passed s (passed x) e = ap (λ (y : Step S). passed y) e

@@ -1,8 +1,8 @@
 -- The closing call: what it accepted, and what it accepts.
-use Rattle.base.{specs.Base.{ℕ, ◌≡◌, true, not, ◌&&◌, List, length, eqb, FileCorruptError, passed, done, concluded, Step, Checked}, proofs.Laws.{refl, sym, ◌∙◌, ap, by_cases, and_left, and_right, and_both, not-false, not_isn't, eqb-true, eq-eqb, passed-same, bind_of}}
+use Rattle.base.{specs.Base.{ℕ, ◌≡◌, true, not, ◌&&◌, List, length, eqb, FileCorruptError, passed, done, concluded, Step, Checked}, proofs.Laws.{refl, sym, ◌∙◌, ap, by_cases, and_left, and_right, and_both, not-false, not_isn't, eqb-true, eq-eqb, passed_same, bind_of}}
 use Rattle.image.specs.{Blocks.image_blocks, Image.{Reading, Restoring, restorable, checked_image, finish_image}}
 use Rattle.layout.specs.Layout.{tables_size}
-use Rattle.image_laws.proofs.Chains.{test_passed, test_passes, bind_passed, done-passed, not_refused}
+use Rattle.image_laws.proofs.Chains.{test_passed, test_passes, bind_passed, done_passed, not_refused}
 
 -- what the closing call accepted
 pub record Accepted (t : Reading) (r : Restoring) : Type 0 where
@@ -21,7 +21,7 @@ accepted t r bs h e =
     record {
       all = eqb-true t.reader image_blocks (and_left (eqb t.reader image_blocks) (restorable t.spare) both);
       sound = and_right (eqb t.reader image_blocks) (restorable t.spare) both;
-      tables = sym (passed-same test.1 ∙ ap (λ (x : Step Restoring). x.state.tables) (passed-same e));
+      tables = sym (passed_same test.1 ∙ ap (λ (x : Step Restoring). x.state.tables) (passed_same e));
     }
 
 pub finish_accepted : (before : List ℕ) (t : Reading) (r : Restoring) → finish_image (record { tables = before; reading = t }) ≡ done r
@@ -29,7 +29,7 @@ pub finish_accepted : (before : List ℕ) (t : Reading) (r : Restoring) → fini
 unfolding finish_image
 finish_accepted before t r h =
     by_cases (eqb (length before) tables_size && eqb (length t.spare) tables_size)
-    (λ e. let passes = bind_passed (checked_image t) gives (done-passed _ _ (rw (e, finish_image) at h)) in
+    (λ e. let passes = bind_passed (checked_image t) gives (done_passed _ _ (rw (e, finish_image) at h)) in
     accepted t r passes.0 passes.1.0 passes.1.1)
     (λ e. absurd (not_refused (rw (e, finish_image) at h)))
 

@@ -5,16 +5,16 @@ use Rattle.audit.specs.Sound.{sound_bytes}
 use Rattle.consistency.{specs.Consistent.Consistent, proofs.Equivalence.consistent_iff}
 use Rattle.format.specs.Format.{fresh_opens}
 use Rattle.image.specs.{Blocks.{image_blocks, record_of, place_of, size_of, without_opens}, Alone.record_alone, Image.restorable}
-use Rattle.layout.{specs.{Layout.{tables_size, opens_at, encode, decode}, Fits.TablesFit}, proofs.Tables.{decode-encode, encode-length, encode-stands, encode-decode, stands-length}}
+use Rattle.layout.{specs.{Layout.{tables_size, opens_at, encode, decode}, Fits.TablesFit}, proofs.Tables.{decode-encode, encode-length, encode_stands, encode-decode, stands_length}}
 use Rattle.little_endian.specs.LittleEndian.{Bytes, part}
 use Rattle.image_laws.specs.RoundTrip.{SameWithoutOpens}
-use Rattle.image_laws.proofs.{SavedSound.{sound-stands, sound-consistent, restorable-sound, restorable-unopened}, SavedSlots.none-used, SavedTables.saved_consistent, SavedUnopened.unopened-same, SavedAlone.restorable_alone, SavedFits.{saved_fits, no_opens_behind}}
+use Rattle.image_laws.proofs.{SavedSound.{sound_stands, sound_consistent, restorable_sound, restorable_unopened}, SavedSlots.none_used, SavedTables.saved_consistent, SavedUnopened.unopened_same, SavedAlone.restorable_alone, SavedFits.{saved_fits, no_opens_behind}}
 
 -- no open is used
 fresh-unused : any open_used fresh_opens.rows ≡ false
 unfolding open_used
 fresh-unused =
-    refuted _ (λ u. let p = any_at open_used zero_open fresh_opens.rows u in none-used open_used zero_open refl open_slots p.0 p.2)
+    refuted _ (λ u. let p = any_at open_used zero_open fresh_opens.rows u in none_used open_used zero_open refl open_slots p.0 p.2)
 
 -- the bytes of tables that fit, are consistent and have no open
 restorable-tables : (t : Tables) → TablesFit t → Consistent t.volume t.opens → any open_used t.opens.rows ≡ false
@@ -22,11 +22,11 @@ restorable-tables : (t : Tables) → TablesFit t → Consistent t.volume t.opens
 unfolding restorable sound_bytes
 restorable-tables t fit c none =
     rw (decode-encode t fit)
-    (and_both (and_both (encode-stands t fit) ((consistent_iff t.volume t.opens).1 c)) (not_is none))
+    (and_both (and_both (encode_stands t fit) ((consistent_iff t.volume t.opens).1 c)) (not_is none))
 
 module _ (bs : List ℕ) (bytes : Bytes bs) (sound : sound_bytes bs ≡ true) where
   fit : TablesFit (without_opens (decode bs))
-  fit = saved_fits bs bytes (stands-length bs (sound-stands bs sound))
+  fit = saved_fits bs bytes (stands_length bs (sound_stands bs sound))
 
   pub saved_length : length (encode (without_opens (decode bs))) ≡ tables_size
   saved_length = encode-length (without_opens (decode bs)) fit
@@ -37,7 +37,7 @@ module _ (bs : List ℕ) (bytes : Bytes bs) (sound : sound_bytes bs ≡ true) wh
   pub saved_restorable : restorable (encode (without_opens (decode bs))) ≡ true
   unfolding without_opens
   saved_restorable =
-      restorable-tables (without_opens (decode bs)) fit (saved_consistent (decode bs) (sound-consistent bs sound)) fresh-unused
+      restorable-tables (without_opens (decode bs)) fit (saved_consistent (decode bs) (sound_consistent bs sound)) fresh-unused
 
   pub saved_alone : (n : ℕ) → n < image_blocks
       → record_alone (record_of n)
@@ -47,8 +47,8 @@ module _ (bs : List ℕ) (bytes : Bytes bs) (sound : sound_bytes bs ≡ true) wh
 
 pub same_without_opens : SameWithoutOpens
 same_without_opens bs bytes sound none =
-    ap encode (unopened-same (decode bs) (sound-consistent bs sound) none) ∙ encode-decode bs bytes (sound-stands bs sound)
+    ap encode (unopened_same (decode bs) (sound_consistent bs sound) none) ∙ encode-decode bs bytes (sound_stands bs sound)
 
 -- bytes that can be restored are those that an image of their tables keeps
 pub restorable-same : (bs : List ℕ) → Bytes bs → restorable bs ≡ true → encode (without_opens (decode bs)) ≡ bs
-restorable-same bs bytes ok = same_without_opens bs bytes (restorable-sound bs ok) (restorable-unopened bs ok)
+restorable-same bs bytes ok = same_without_opens bs bytes (restorable_sound bs ok) (restorable_unopened bs ok)

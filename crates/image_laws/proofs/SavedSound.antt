@@ -5,19 +5,19 @@ use Rattle.consistency.{specs.Consistent.Consistent, proofs.Equivalence.consiste
 use Rattle.image.specs.Image.{restorable}
 use Rattle.layout.specs.Layout.{decode, stands_for_tables}
 
-pub sound-stands : (bs : List ℕ) → sound_bytes bs ≡ true → stands_for_tables bs ≡ true
+pub sound_stands : (bs : List ℕ) → sound_bytes bs ≡ true → stands_for_tables bs ≡ true
 unfolding sound_bytes
-sound-stands bs s = and_left (stands_for_tables bs) _ s
+sound_stands bs s = and_left (stands_for_tables bs) _ s
 
-pub sound-consistent : (bs : List ℕ) → sound_bytes bs ≡ true → Consistent (decode bs).volume (decode bs).opens
+pub sound_consistent : (bs : List ℕ) → sound_bytes bs ≡ true → Consistent (decode bs).volume (decode bs).opens
 unfolding sound_bytes
-sound-consistent bs s =
+sound_consistent bs s =
     (consistent_iff (decode bs).volume (decode bs).opens).0 (and_right (stands_for_tables bs) _ s)
 
-pub restorable-sound : (bs : List ℕ) → restorable bs ≡ true → sound_bytes bs ≡ true
+pub restorable_sound : (bs : List ℕ) → restorable bs ≡ true → sound_bytes bs ≡ true
 unfolding restorable
-restorable-sound bs ok = and_left (sound_bytes bs) _ ok
+restorable_sound bs ok = and_left (sound_bytes bs) _ ok
 
-pub restorable-unopened : (bs : List ℕ) → restorable bs ≡ true → any open_used (decode bs).opens.rows ≡ false
+pub restorable_unopened : (bs : List ℕ) → restorable bs ≡ true → any open_used (decode bs).opens.rows ≡ false
 unfolding restorable
-restorable-unopened bs ok = not-true _ (and_right (sound_bytes bs) _ ok)
+restorable_unopened bs ok = not-true _ (and_right (sound_bytes bs) _ ok)

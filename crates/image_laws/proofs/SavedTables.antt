@@ -1,31 +1,31 @@
 -- Consistent tables without their opens are consistent.
 use Rattle.base.{specs.Base.{ℕ, ◌≤◌, ◌≡◌, Bool, false, List, [], ◌∷◌, map, any, root, open_slots, zero_file, zero_stream, zero_bare, zero_open, is_directory, is_used, file_used, open_used, BareStream, bare, bare_used, bare_at, with_counts, namespace, FileNo, StreamNo, File, Link, Stream, Open, Tables}, proofs.Laws.{refl, sym, ◌∙◌, ap, not_both, false≢true, none_kept_of}}
-use Rattle.sharing.{specs.Sharing.on_stream, proofs.Counts.counts-none}
+use Rattle.sharing.{specs.Sharing.on_stream, proofs.Counts.counts_none}
 use Rattle.tables.specs.Tables.{file_at, stream_at, live}
-use Rattle.consistency.{specs.{Relations.{type_at, stream_of, unnamed_of}, Good.StreamNamesDiffer, Consistent.{FilesConsistent, LinksConsistent, StreamsConsistent, OpensConsistent, CountsTrue, NoConflicts, MarksConsistent, MarksHeld, Consistent}}, proofs.Slots.slots-good}
+use Rattle.consistency.{specs.{Relations.{type_at, stream_of, unnamed_of}, Good.StreamNamesDiffer, Consistent.{FilesConsistent, LinksConsistent, StreamsConsistent, OpensConsistent, CountsTrue, NoConflicts, MarksConsistent, MarksHeld, Consistent}}, proofs.Slots.slots_good}
 use Rattle.format.specs.Format.{fresh_opens}
 use Rattle.image.specs.Blocks.{unmarked_file, unmarked_bare, unopened_stream, without_opens}
-use Rattle.image_laws.proofs.SavedSlots.{map_at, map-count, slots-changed, two-changed, none-used, free-slots}
+use Rattle.image_laws.proofs.SavedSlots.{map_at, map-count, slots_changed, two_changed, none_used, free_slots}
 
 -- a file at its number
-pub unmarked-at : (fs : List File) (f : FileNo) → file_at (map unmarked_file fs) f ≡ unmarked_file (file_at fs f)
+pub unmarked_at : (fs : List File) (f : FileNo) → file_at (map unmarked_file fs) f ≡ unmarked_file (file_at fs f)
 unfolding file_at unmarked_file
-unmarked-at fs f = map_at unmarked_file zero_file refl fs f.0
+unmarked_at fs f = map_at unmarked_file zero_file refl fs f.0
 
 unmarked_type : (fs : List File) (f : FileNo) → type_at (map unmarked_file fs) f ≡ type_at fs f
 unfolding unmarked_file
-unmarked_type fs f = ap (λ (g : File). g.file_type) (unmarked-at fs f)
+unmarked_type fs f = ap (λ (g : File). g.file_type) (unmarked_at fs f)
 
-unmarked-used : (fs : List File) (f : FileNo) → file_used (file_at (map unmarked_file fs) f) ≡ file_used (file_at fs f)
+unmarked_used : (fs : List File) (f : FileNo) → file_used (file_at (map unmarked_file fs) f) ≡ file_used (file_at fs f)
 unfolding file_used
-unmarked-used fs f = ap is_used (unmarked_type fs f)
+unmarked_used fs f = ap is_used (unmarked_type fs f)
 
 files_saved : (fs : List File) → FilesConsistent fs → FilesConsistent (map unmarked_file fs)
 unfolding unmarked_file file_used
 files_saved fs c =
     record {
       slots =
-          slots-changed zero_file unmarked_file refl fs file_used (λ f. refl)
+          slots_changed zero_file unmarked_file refl fs file_used (λ f. refl)
           (λ f u g. record { attributes = g.attributes; masks_within = g.masks_within }) c.slots;
       root_directory = ap is_directory (unmarked_type fs root) ∙ c.root_directory;
     }
@@ -34,7 +34,7 @@ links_saved : (fs : List File) (ls : List Link) → LinksConsistent fs ls → Li
 links_saved fs ls c =
     record {
       slots =
-          slots-good
+          slots_good
           (λ l u g.
           record {
             name_stored = g.name_stored;
@@ -44,8 +44,8 @@ links_saved fs ls c =
           })
           c.slots;
       root_has_none = c.root_has_none;
-      others_have_one = λ f n u. c.others_have_one f n (sym (unmarked-used fs f) ∙ u);
-      parents_lead_to_root = λ f u. c.parents_lead_to_root f (sym (unmarked-used fs f) ∙ u);
+      others_have_one = λ f n u. c.others_have_one f n (sym (unmarked_used fs f) ∙ u);
+      parents_lead_to_root = λ f u. c.parents_lead_to_root f (sym (unmarked_used fs f) ∙ u);
       names_differ = c.names_differ;
     }
 
@@ -55,7 +55,7 @@ unfolding unmarked_bare bare_used stream_of unnamed_of
 streams_saved fs ss c =
     record {
       slots =
-          slots-changed zero_bare unmarked_bare refl ss bare_used (λ s. refl)
+          slots_changed zero_bare unmarked_bare refl ss bare_used (λ s. refl)
           (λ s u g.
           record {
             name_stored = g.name_stored;
@@ -68,44 +68,44 @@ streams_saved fs ss c =
       one_unnamed =
           λ f u.
           map-count zero_bare unmarked_bare refl ss (unnamed_of f) (λ s. refl)
-          ∙ c.one_unnamed f (sym (unmarked-used fs f) ∙ u);
+          ∙ c.one_unnamed f (sym (unmarked_used fs f) ∙ u);
       directories_have_one =
           λ f d.
           map-count zero_bare unmarked_bare refl ss (stream_of f) (λ s. refl)
           ∙ c.directories_have_one f (sym (ap is_directory (unmarked_type fs f)) ∙ d);
       names_differ =
-          two-changed zero_bare unmarked_bare refl ss bare_used (λ s. refl) StreamNamesDiffer (λ s t d. d) c.names_differ;
+          two_changed zero_bare unmarked_bare refl ss bare_used (λ s. refl) StreamNamesDiffer (λ s t d. d) c.names_differ;
     }
 
 -- no open is live
-none-live : (q : Open → Bool) → any q (live fresh_opens.rows) ≡ false
+none_live : (q : Open → Bool) → any q (live fresh_opens.rows) ≡ false
 unfolding live open_used
-none-live q =
-    none_kept_of open_used q zero_open fresh_opens.rows (λ i u. absurd (none-used open_used zero_open refl open_slots i u))
+none_live q =
+    none_kept_of open_used q zero_open fresh_opens.rows (λ i u. absurd (none_used open_used zero_open refl open_slots i u))
 
 no_opens : (ss : List BareStream) (next : ℕ) → 1 ≤ next → OpensConsistent ss next fresh_opens.rows
 unfolding open_used
 no_opens ss next h =
     record {
-      slots = free-slots open_used zero_open refl open_slots;
+      slots = free_slots open_used zero_open refl open_slots;
       next_at_least = h;
-      handles_differ = λ i j b u w. absurd (none-used open_used zero_open refl open_slots i u);
+      handles_differ = λ i j b u w. absurd (none_used open_used zero_open refl open_slots i u);
     }
 
 no_conflicts : NoConflicts fresh_opens.rows
 unfolding open_used
-no_conflicts i j b u w = absurd (none-used open_used zero_open refl open_slots i u)
+no_conflicts i j b u w = absurd (none_used open_used zero_open refl open_slots i u)
 
 -- a stream at its number, with the counts of no open
-unopened-at : (ss : List Stream) (s : StreamNo) → stream_at (map unopened_stream ss) s ≡ unopened_stream (stream_at ss s)
+unopened_at : (ss : List Stream) (s : StreamNo) → stream_at (map unopened_stream ss) s ≡ unopened_stream (stream_at ss s)
 unfolding stream_at unopened_stream unmarked_bare with_counts bare
-unopened-at ss s = map_at unopened_stream zero_stream refl ss s.0
+unopened_at ss s = map_at unopened_stream zero_stream refl ss s.0
 
 counts_saved : (ss : List Stream) → CountsTrue (map unopened_stream ss) fresh_opens.rows
 unfolding unopened_stream with_counts
 counts_saved ss s b =
-    ap (λ (t : Stream). t.counts) (unopened-at ss s)
-    ∙ sym (counts-none s (live fresh_opens.rows) (none-live (on_stream s)))
+    ap (λ (t : Stream). t.counts) (unopened_at ss s)
+    ∙ sym (counts_none s (live fresh_opens.rows) (none_live (on_stream s)))
 
 -- the streams without their counts
 bare_saved : (ss : List Stream) → map bare (map unopened_stream ss) ≡ map unmarked_bare (map bare ss)
@@ -114,26 +114,26 @@ bare_saved [] = refl
 bare_saved (s ∷ ss) = ap (λ (rest : List BareStream). unmarked_bare (bare s) ∷ rest) (bare_saved ss)
 
 -- no mark is left
-file-unmarked : (fs : List File) (f : FileNo) → (file_at (map unmarked_file fs) f).delete_pending ≡ false
+file_unmarked : (fs : List File) (f : FileNo) → (file_at (map unmarked_file fs) f).delete_pending ≡ false
 unfolding unmarked_file
-file-unmarked fs f = ap (λ (g : File). g.delete_pending) (unmarked-at fs f)
+file_unmarked fs f = ap (λ (g : File). g.delete_pending) (unmarked_at fs f)
 
-stream-unmarked : (ss : List BareStream) (s : StreamNo) → (bare_at (map unmarked_bare ss) s).delete_pending ≡ false
+stream_unmarked : (ss : List BareStream) (s : StreamNo) → (bare_at (map unmarked_bare ss) s).delete_pending ≡ false
 unfolding bare_at unmarked_bare
-stream-unmarked ss s = ap (λ (b : BareStream). b.delete_pending) (map_at unmarked_bare zero_bare refl ss s.0)
+stream_unmarked ss s = ap (λ (b : BareStream). b.delete_pending) (map_at unmarked_bare zero_bare refl ss s.0)
 
 no_marks : (fs : List File) (ls : List Link) → MarksConsistent (map unmarked_file fs) ls
 no_marks fs ls =
     record {
-      root_unmarked = file-unmarked fs root;
-      marked_childless = λ f m. absurd (not_both m (file-unmarked fs f));
+      root_unmarked = file_unmarked fs root;
+      marked_childless = λ f m. absurd (not_both m (file_unmarked fs f));
     }
 
-none-held : (fs : List File) (ss : List BareStream) (os : List Open) → MarksHeld (map unmarked_file fs) (map unmarked_bare ss) os
-none-held fs ss os =
+none_held : (fs : List File) (ss : List BareStream) (os : List Open) → MarksHeld (map unmarked_file fs) (map unmarked_bare ss) os
+none_held fs ss os =
     record {
-      files = λ f m. absurd (not_both m (file-unmarked fs f));
-      streams = λ s m. absurd (not_both m (stream-unmarked ss s));
+      files = λ f m. absurd (not_both m (file_unmarked fs f));
+      streams = λ s m. absurd (not_both m (stream_unmarked ss s));
     }
 
 pub saved_consistent : (t : Tables) → Consistent t.volume t.opens
@@ -150,5 +150,5 @@ saved_consistent t c =
       counts = counts_saved ss;
       conflicts = no_conflicts;
       marks = no_marks fs t.volume.links;
-      held = rw (bare_saved ss) (none-held fs (map bare ss) fresh_opens.rows);
+      held = rw (bare_saved ss) (none_held fs (map bare ss) fresh_opens.rows);
     }

@@ -1,12 +1,12 @@
 -- Blocks that were read are the blocks of the second set that reading leaves: no second spelling.
 use lib.Seq.{take-take, take-add, drop_at, length-take-le}
 use lib.ListN.{length-append}
-use Rattle.base.{specs.Base.{ℕ, zero, suc, ◌+◌, ◌*◌, ◌≤◌, ◌<◌, ◌≡◌, true, List, ◌++◌, length, take, drop, passed, file_slots, link_slots, stream_slots}, proofs.Laws.{refl, sym, ◌∙◌, ap, ap₂, arith, take_all, passed-same}}
-use Rattle.codecs.proofs.Bytes.{take-bytes, drop-bytes}
+use Rattle.base.{specs.Base.{ℕ, zero, suc, ◌+◌, ◌*◌, ◌≤◌, ◌<◌, ◌≡◌, true, List, ◌++◌, length, take, drop, passed, file_slots, link_slots, stream_slots}, proofs.Laws.{refl, sym, ◌∙◌, ap, ap₂, arith, take_all, passed_same}}
+use Rattle.codecs.proofs.Bytes.{take_bytes, drop_bytes}
 use Rattle.image.specs.{Blocks.{block_size, image_blocks, block, record_of, place_of, size_of, preface, block_of, blocks_of}, Alone.{record_in, block_alone}, Image.{Reading, unread, blocks_in, whole_blocks, put_block, read_blocks, read_rows}, declared.BlockRecord.BlockRecord}
 use Rattle.layout.specs.Layout.{tables_size}
 use Rattle.little_endian.{specs.LittleEndian.{part, Bytes}, proofs.Parts.take_drop_take}
-use Rattle.image_laws.proofs.{Places.{reached, placed, record-ends}, Chains.bind_passed, Reading.{whole_length, read_alone, read_put, alone_within, reader_moves, row_blocks, joined-whole, rows-joined, rows_whole}, Put.{Unopened, zeros-unopened, zero-bytes, alone_spelled, record-long, put_length, put_reaches, put_keeps, put_unopened, put_bytes, from_first}}
+use Rattle.image_laws.proofs.{Places.{reached, placed, record_ends}, Chains.bind_passed, Reading.{whole_length, read_alone, read_put, alone_within, reader_moves, row_blocks, joined_whole, rows_joined, rows_whole}, Put.{Unopened, zeros_unopened, zero_bytes, alone_spelled, record_long, put_length, put_reaches, put_keeps, put_unopened, put_bytes, from_first}}
 use Rattle.image_laws.specs.RoundTrip.{joined}
 
 -- what a block put keeps of the second set, reading keeps; Q is what the blocks have
@@ -15,7 +15,7 @@ module _ (P Q : List ℕ → Type 0)
     (front : (n : ℕ) (row : List ℕ) → Q row → Q (take n row)) (rest : (n : ℕ) (row : List ℕ) → Q row → Q (drop n row)) where
   pub blocks_keep : (s t : Reading) (k : ℕ) (row : List ℕ) → Q row → P s.spare → read_blocks s k row ≡ passed t → P t.spare
   unfolding read_blocks
-  blocks_keep s t zero row q p h = rw (← passed-same h) p
+  blocks_keep s t zero row q p h = rw (← passed_same h) p
   blocks_keep s t (suc k) row q p h =
       let next = bind_passed _ _ h in
       let b = take block_size row in
@@ -56,18 +56,18 @@ module _ (s t : Reading) (k : ℕ) (row : List ℕ) (long : length s.spare ≡ t
   so_far : List ℕ
   so_far = take (reached n) s.spare ++ record_in r b
 
-  before-length : length (take (reached n) s.spare) ≡ place_of r
-  before-length = length-take-le (reached n) s.spare (omega (arith, placed n within, record-ends n within)) ∙ sym (placed n within)
+  before_length : length (take (reached n) s.spare) ≡ place_of r
+  before_length = length-take-le (reached n) s.spare (omega (arith, placed n within, record_ends n within)) ∙ sym (placed n within)
 
-  record-stands : part t.spare (place_of r) (size_of r) ≡ record_in r b
+  record_stands : part t.spare (place_of r) (size_of r) ≡ record_in r b
   unfolding reached so_far
-  record-stands =
+  record_stands =
       let x = record_in r b in
       part_of_front t.spare so_far (place_of r) (size_of r) (reached (suc n)) (omega (arith, placed n within))
       (rest.kept ∙ put_reaches n b alone s.spare long
-      ∙ sym (take_all (reached (suc n)) so_far (rw length-append (omega (arith, before-length, placed n within, record-long n b alone)))))
-      ∙ ap (take (size_of r)) (drop_at (take (reached n) s.spare) x (place_of r) before-length)
-      ∙ take_all (size_of r) x (omega (arith, record-long n b alone))
+      ∙ sym (take_all (reached (suc n)) so_far (rw length-append (omega (arith, before_length, placed n within, record_long n b alone)))))
+      ∙ ap (take (size_of r)) (drop_at (take (reached n) s.spare) x (place_of r) before_length)
+      ∙ take_all (size_of r) x (omega (arith, record_long n b alone))
 
   next_spells : Spells s t (suc k) row
   unfolding blocks_of block_of reached
@@ -80,14 +80,14 @@ module _ (s t : Reading) (k : ℕ) (row : List ℕ) (long : length s.spare ≡ t
             ap (λ (j : ℕ). take j row) (let e : block_size * suc k ≡ block_size + block_size * k = omega arith in e)
             ∙ take-add block_size (block_size * k) row
             ∙ ap₂ (λ (x y : List ℕ). x ++ y)
-            (alone_spelled n b alone ∙ ap (λ (x : List ℕ). block n (preface r ++ x)) (sym record-stands))
+            (alone_spelled n b alone ∙ ap (λ (x : List ℕ). block n (preface r ++ x)) (sym record_stands))
             rest.is;
       }
 
 blocks_spelled : (s t : Reading) (k : ℕ) (row : List ℕ) → length s.spare ≡ tables_size → read_blocks s k row ≡ passed t → Spells s t k row
 unfolding read_blocks blocks_of
 blocks_spelled s t zero row long h =
-    record { kept = rw (← passed-same h); is = refl }
+    record { kept = rw (← passed_same h); is = refl }
 blocks_spelled s t (suc k) row long h =
     let next = bind_passed _ _ h in
     let b = take block_size row in
@@ -99,12 +99,12 @@ blocks_spelled s t (suc k) row long h =
 -- all blocks read from block 0 on
 module _ (s t : Reading) (rows : List (List ℕ)) (first : s.reader ≡ 0) (read : read_rows s rows ≡ passed t) (last : t.reader ≡ image_blocks) where
   whole : whole_blocks (length (joined rows)) ≡ true
-  whole = joined-whole rows (rows_whole s t rows read)
+  whole = joined_whole rows (rows_whole s t rows read)
 
   by_blocks : read_blocks s (blocks_in (length (joined rows))) (joined rows) ≡ passed t
   by_blocks =
       let l : s.reader ≤ image_blocks = omega arith in
-      sym (row_blocks s (joined rows) l whole) ∙ rows-joined s rows l (rows_whole s t rows read) ∙ read
+      sym (row_blocks s (joined rows) l whole) ∙ rows_joined s rows l (rows_whole s t rows read) ∙ read
 
   all_blocks : blocks_in (length (joined rows)) ≡ image_blocks
   all_blocks =
@@ -121,21 +121,21 @@ module _ (s t : Reading) (rows : List (List ℕ)) (first : s.reader ≡ 0) (read
       ∙ ap (λ (k : ℕ). read_blocks s k (joined rows)) (sym all_blocks)
       ∙ by_blocks
 
-  pub spelled-unopened : Unopened t.spare
-  spelled-unopened =
+  pub spelled_unopened : Unopened t.spare
+  spelled_unopened =
       blocks_keep Unopened (λ b. Unit {0}) (λ n b spare h q u. put_unopened n b h spare u) (λ n row q. tt) (λ n row q. tt)
-      unread t image_blocks (joined rows) tt zeros-unopened all_read
+      unread t image_blocks (joined rows) tt zeros_unopened all_read
 
-  pub spelled-bytes : Bytes (joined rows) → Bytes t.spare
-  spelled-bytes b =
-      blocks_keep Bytes Bytes (λ n b spare h q u. put_bytes n b spare q u) take-bytes drop-bytes unread t image_blocks (joined rows) b (zero-bytes tables_size) all_read
+  pub spelled_bytes : Bytes (joined rows) → Bytes t.spare
+  spelled_bytes b =
+      blocks_keep Bytes Bytes (λ n b spare h q u. put_bytes n b spare q u) take_bytes drop_bytes unread t image_blocks (joined rows) b (zero_bytes tables_size) all_read
 
   pub spelled_is : joined rows ≡ blocks_of t.spare 0 image_blocks
   spelled_is =
       sym (take_all (block_size * image_blocks) (joined rows) (omega (arith, all-length)))
-      ∙ (blocks_spelled unread t image_blocks (joined rows) zeros-unopened.long all_read).is
+      ∙ (blocks_spelled unread t image_blocks (joined rows) zeros_unopened.long all_read).is
 
 -- rows read from block 0 to the last are the blocks of the second set that they leave
 pub spelled : (s t : Reading) (rows : List (List ℕ)) → s.reader ≡ 0 → length s.spare ≡ tables_size → read_rows s rows ≡ passed t
     → t.reader ≡ image_blocks → (joined rows ≡ blocks_of t.spare 0 image_blocks) × (length t.spare ≡ tables_size)
-spelled s t rows first long read last = (spelled_is s t rows first read last, (spelled-unopened s t rows first read last).long)
+spelled s t rows first long read last = (spelled_is s t rows first read last, (spelled_unopened s t rows first read last).long)

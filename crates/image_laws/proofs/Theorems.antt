@@ -1,8 +1,8 @@
 -- The round trip: rows written in turn are the image, the image comes back, and accepted bytes are an image.
-use Rattle.base.{specs.Base.{ℕ, ◌+◌, ◌≡◌, List, ◌++◌, length, FileCorruptError, done}, proofs.Laws.{refl, sym, ◌∙◌, ap, ap₂, passed-same}}
+use Rattle.base.{specs.Base.{ℕ, ◌+◌, ◌≡◌, List, ◌++◌, length, FileCorruptError, done}, proofs.Laws.{refl, sym, ◌∙◌, ap, ap₂, passed_same}}
 use Rattle.image.specs.{Blocks.{image_blocks, blocks_of, image_part, without_opens}, Image.{blocks_in, checked_row, write_image}}
 use Rattle.layout.specs.Layout.{encode, decode}
-use Rattle.image_laws.proofs.{Blocks.{blocks_length, blocks_add}, Chains.{test_passed, bind_passed, done-passed}, Reading.blocks_count, Spelled.{spelled, spelled-bytes}, Put.Unopened, Back.rows_back, Finish.{finish_accepted, finishes}, Saved.{saved_length, saved_opens_zero, saved_alone, saved_restorable, restorable-same}}
+use Rattle.image_laws.proofs.{Blocks.{blocks_length, blocks_add}, Chains.{test_passed, bind_passed, done_passed}, Reading.blocks_count, Spelled.{spelled, spelled_bytes}, Put.Unopened, Back.rows_back, Finish.{finish_accepted, finishes}, Saved.{saved_length, saved_opens_zero, saved_alone, saved_restorable, restorable-same}}
 use Rattle.image_laws.specs.RoundTrip.{joined, Written, no_row, next_row, WrittenInTurn, RoundTrip, NoSecondSpelling}
 
 -- a row that was written
@@ -10,9 +10,9 @@ module _ (tables before row : List ℕ) (n : ℕ) (h : write_image tables n befo
   row_written : (k : ℕ) × (row ≡ image_part (decode tables) n k)
   unfolding write_image
   row_written =
-      let sound = test_passed _ FileCorruptError _ (done-passed _ _ h) in
+      let sound = test_passed _ FileCorruptError _ (done_passed _ _ h) in
       let k = bind_passed (checked_row n (length before)) _ sound.1 in
-      (k.0, sym (ap (λ x. x.state) (passed-same k.1.1)))
+      (k.0, sym (ap (λ x. x.state) (passed_same k.1.1)))
 
 -- rows written from block n on
 rows_written : (tables : List ℕ) (n : ℕ) (rows : List (List ℕ)) → Written tables n rows → (k : ℕ) × (joined rows ≡ image_part (decode tables) n k)
@@ -51,6 +51,6 @@ pub no_second_spelling : NoSecondSpelling
 unfolding image_part
 no_second_spelling s t rows bytes first long read before r h =
     let a = finish_accepted before t r h in
-    let same = restorable-same t.spare (spelled-bytes s t rows first read a.all bytes) a.sound in
+    let same = restorable-same t.spare (spelled_bytes s t rows first read a.all bytes) a.sound in
     (spelled s t rows first long read a.all).0
     ∙ ap (λ (bs : List ℕ). blocks_of bs 0 image_blocks) (sym same ∙ ap (λ (bs : List ℕ). encode (without_opens (decode bs))) (sym a.tables))

@@ -28,22 +28,22 @@ module _ (s : Reading) (row : List ℕ) where
       let n : s.reader + 0 ≡ s.reader = omega arith in
       record { within = omega arith; rest = rw (k, n) }
 
-  nth-is : (i : ℕ) → nth i ≡ part row (block_size * i) block_size
-  nth-is i = let n : block_size * i + block_size - block_size * i ≡ block_size = omega arith in rw n
+  nth_is : (i : ℕ) → nth i ≡ part row (block_size * i) block_size
+  nth_is i = let n : block_size * i + block_size - block_size * i ≡ block_size = omega arith in rw n
 
-  pub nth-length : (i : ℕ) → i < count → length (nth i) ≡ block_size
-  nth-length i h = rw (nth-is i) (part_length row (block_size * i) block_size (omega arith))
+  pub nth_length : (i : ℕ) → i < count → length (nth i) ≡ block_size
+  nth_length i h = rw (nth_is i) (part_length row (block_size * i) block_size (omega arith))
 
   module _ (spare : List ℕ) (i : ℕ) (read : ReadTo spare i) where
     module _ (more : i < count) where
       turn : read_blocks s count row
           ≡ (read_block (reached spare i) (nth i) >>= (λ next. read_blocks next (count - (i + 1)) (drop block_size (drop (block_size * i) row))))
       unfolding read_blocks
-      turn = let k : count - i ≡ suc (count - (i + 1)) = omega arith in read.rest ∙ rw (k, nth-is i)
+      turn = let k : count - i ≡ suc (count - (i + 1)) = omega arith in read.rest ∙ rw (k, nth_is i)
 
-      pub read-stops : block_alone (s.reader + i) (nth i) ≡ false → read_blocks s count row ≡ refuse FileCorruptError
+      pub read_stops : block_alone (s.reader + i) (nth i) ≡ false → read_blocks s count row ≡ refuse FileCorruptError
       unfolding read_block refuse_if ◌>>◌ ◌>>=◌
-      read-stops e = turn ∙ rw e
+      read_stops e = turn ∙ rw e
 
       pub read_next : {m : List ℕ} → block_alone (s.reader + i) (nth i) ≡ true → m ≡ put_block (s.reader + i) (nth i) spare → ReadTo m (i + 1)
       unfolding read_block refuse_if ◌>>◌ ◌>>=◌
@@ -52,9 +52,9 @@ module _ (s : Reading) (row : List ℕ) where
           let at : block_size * i + block_size ≡ block_size * (i + 1) = omega arith in
           record { within = omega arith; rest = turn ∙ rw (e, put, drop-drop block_size (block_size * i) row, n, at) }
 
-    pub read-ends : count ≤ i → read_blocks s count row ≡ passed (reached spare count)
+    pub read_ends : count ≤ i → read_blocks s count row ≡ passed (reached spare count)
     unfolding read_blocks
-    read-ends h =
+    read_ends h =
         let k : count - i ≡ 0 = omega arith in
         let n : i ≡ count = omega (arith, read.within) in
         read.rest ∙ rw (k, n)

@@ -12,9 +12,9 @@ module _ (s : Reading) (row : List ℕ) where
   read_length h = rw (ne_eqb _ _ h, read_image)
 
   module _ (long : length s.spare ≡ tables_size) (next : Reading) (ok : Bool) (read : read_row s row ≡ or_corrupt ok next) where
-    pub read-refused : ok ≡ false → read_image s row ≡ corrupt unread
+    pub read_refused : ok ≡ false → read_image s row ≡ corrupt unread
     unfolding read_image concluded ◌>>=◌
-    read-refused e = rw (eq-eqb _ _ long, read_image) (rw (read, e))
+    read_refused e = rw (eq-eqb _ _ long, read_image) (rw (read, e))
 
     pub read_done : ok ≡ true → read_image s row ≡ done next
     unfolding read_image concluded ◌>>=◌

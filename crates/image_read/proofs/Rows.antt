@@ -7,17 +7,17 @@ use Rattle.image.specs.{Blocks.{block_size, image_blocks}, Image.{Reading, whole
 use Rattle.image_laws.proofs.{Chains.test_passed, Reading.{row_blocks, row_within}}
 
 module _ (s : Reading) (row : List ℕ) where
-  pub row-over : image_blocks < s.reader → read_row s row ≡ refuse FileCorruptError
+  pub row_over : image_blocks < s.reader → read_row s row ≡ refuse FileCorruptError
   unfolding read_row refuse_if ◌>>◌
-  row-over h = rw (lt-leb s.reader image_blocks h)
+  row_over h = rw (lt-leb s.reader image_blocks h)
 
   pub row_cut : (length row % block_size ≡ 0 → ⊥) → read_row s row ≡ refuse FileCorruptError
   unfolding read_row whole_blocks refuse_if ◌>>◌
   row_cut h = rw (ne_eqb (length row % block_size) 0 h, and-false)
 
-  pub row-whole : s.reader ≤ image_blocks → length row % block_size ≡ 0 → read_row s row ≡ read_blocks s (blocks_in (length row)) row
+  pub row_whole : s.reader ≤ image_blocks → length row % block_size ≡ 0 → read_row s row ≡ read_blocks s (blocks_in (length row)) row
   unfolding whole_blocks
-  row-whole l e = row_blocks s row l (eq-eqb (length row % block_size) 0 e)
+  row_whole l e = row_blocks s row l (eq-eqb (length row % block_size) 0 e)
 
   -- no row ends past the last block
   pub row_ends : (t : Reading) → read_row s row ≡ passed t → t.reader ≤ image_blocks

@@ -55,15 +55,15 @@ writing-long {bs} {l} {row} {first} {n} {at} w =
 
 module _ {bs l row : List ℕ} {first n at : ℕ} (room : Room first (length l)) (w : Writing bs first l row n at) where
   -- before the end there is room for a block, and the image has one more
-  pub next-room : at < length l → at + block_size ≤ length l
-  next-room h = omega (arith, room.whole, w.stands)
+  pub next_room : at < length l → at + block_size ≤ length l
+  next_room h = omega (arith, room.whole, w.stands)
 
-  pub next-block : at < length l → n < image_blocks
-  next-block h = omega (arith, room.whole, room.last, w.stands, w.from)
+  pub next_block : at < length l → n < image_blocks
+  next_block h = omega (arith, room.whole, room.last, w.stands, w.from)
 
-  pub writing-turn : {ys : List ℕ} (k : ℕ) → at < length l → k ≡ block_size → length ys ≡ block_size → ys ≡ block_of bs n
+  pub writing_turn : {ys : List ℕ} (k : ℕ) → at < length l → k ≡ block_size → length ys ≡ block_size → ys ≡ block_of bs n
       → Writing bs first l (take at row ++ (ys ++ drop k (drop at row))) (n + 1) (at + block_size)
-  writing-turn {ys} k h e size is =
+  writing_turn {ys} k h e size is =
       let i = n - first in
       let xs = blocks_of bs first i in
       let one : n + 1 - first ≡ suc i = omega (arith, w.from) in
@@ -72,15 +72,15 @@ module _ {bs l row : List ℕ} {first n at : ℕ} (room : Room first (length l))
       record {
         from = omega (arith, w.from);
         stands = omega (arith, w.stands, w.from);
-        within = next-room h;
+        within = next_room h;
         long = rw (one, more, length-append) (omega (arith, w.long));
         is =
             rw (w.is, take_at xs (drop at l) at w.long, drop_at xs (drop at l) at w.long, one, more, e, drop-drop)
             (sym (append_assoc xs ys (drop (at + block_size) l)));
       }
 
-  pub writing-ends : length l ≤ at → row ≡ blocks_of bs first (blocks_in (length l))
-  writing-ends h =
+  pub writing_ends : length l ≤ at → row ≡ blocks_of bs first (blocks_in (length l))
+  writing_ends h =
       let all : n - first ≡ blocks_in (length l) = omega (arith, room.whole, w.stands, w.within) in
       w.is ∙ rw (drop_of_length-le l {i = at} h) (append-nil (blocks_of bs first (n - first)) ∙ ap (blocks_of bs first) all)
 

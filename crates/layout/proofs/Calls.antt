@@ -1,7 +1,7 @@
 -- A call on lent bytes, by what they stand for.
 use Rattle.base.{specs.Base.{ℕ, ◌≡◌, true, false, List, refuse_if, ◌>>◌, concluded, Tables, Step, refused_reply, FileCorruptError}, proofs.Laws.{sym, ◌∙◌, ap}}
 use Rattle.little_endian.specs.LittleEndian.{Bytes}
-use Rattle.layout.proofs.Tables.{decode-encode, encode-decode, encode-stands}
+use Rattle.layout.proofs.Tables.{decode-encode, encode-decode, encode_stands}
 use Rattle.layout.specs.{Layout.{encode, decode, stands_for_tables, Changed}, Fits.TablesFit, Calls.{in_bytes, on_bytes}}
 
 module _ (call : Tables → Step Tables) (bs : List ℕ) where
@@ -20,12 +20,12 @@ module _ (call : Tables → Step Tables) (bs : List ℕ) where
     bytes_left b e = rw (on-tables, e) (encode-decode bs b stands)
 
     module _ (fits : TablesFit (call (decode bs)).state) where
-      pub decoded-after : decode (on_bytes call bs).state ≡ (call (decode bs)).state
-      decoded-after = rw on-tables (decode-encode (call (decode bs)).state fits)
+      pub decoded_after : decode (on_bytes call bs).state ≡ (call (decode bs)).state
+      decoded_after = rw on-tables (decode-encode (call (decode bs)).state fits)
 
       pub stands_after : stands_for_tables (on_bytes call bs).state ≡ true
-      stands_after = rw on-tables (encode-stands (call (decode bs)).state fits)
+      stands_after = rw on-tables (encode_stands (call (decode bs)).state fits)
 
     -- bytes changed to stand for what the call leaves are what it leaves
-    pub state-written : (m : List ℕ) → Bytes m → Changed bs m (call (decode bs)).state → m ≡ (on_bytes call bs).state
-    state-written m b c = sym (encode-decode m b (c.stays stands)) ∙ rw (on-tables, c.is)
+    pub state_written : (m : List ℕ) → Bytes m → Changed bs m (call (decode bs)).state → m ≡ (on_bytes call bs).state
+    state_written m b c = sym (encode-decode m b (c.stays stands)) ∙ rw (on-tables, c.is)

@@ -23,9 +23,9 @@ module _ (k : ℕ) where
       (rest mark_codec
       (rest handle_codec (first (links_codec ⊗ streams_codec ⊗ opens_codec) (slot file_codec zero_file file_slots k h)))))
 
-  pub link-field : k < link_slots
+  pub link_field : k < link_slots
       → Field tables_codec link_codec (links_at + link_size * k) (λ t. get_or t.volume.links k zero_link) (λ t l. put_link t (record { 0 = k }) l)
-  link-field h =
+  link_field h =
       let at : 2 + (8 + (files_codec.size + link_size * k)) ≡ links_at + link_size * k = omega arith in
       moved at
       (through joined parts (λ a. refl)

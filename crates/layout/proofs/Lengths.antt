@@ -4,25 +4,25 @@ use Rattle.codecs.{specs.Codec.number, proofs.Laws.{row_count, decoded}}
 use Rattle.layout.specs.{Records.{file_codec, link_codec, stream_codec, open_codec}, Layout.decode}
 
 module _ (bs : List ℕ) where
-  pub files-count : length (decode bs).volume.files ≡ file_slots
+  pub files_count : length (decode bs).volume.files ≡ file_slots
   unfolding decode
-  files-count = row_count file_codec file_slots _
+  files_count = row_count file_codec file_slots _
 
-  pub links-count : length (decode bs).volume.links ≡ link_slots
+  pub links_count : length (decode bs).volume.links ≡ link_slots
   unfolding decode
-  links-count = row_count link_codec link_slots _
+  links_count = row_count link_codec link_slots _
 
-  pub streams-count : length (decode bs).volume.streams ≡ stream_slots
+  pub streams_count : length (decode bs).volume.streams ≡ stream_slots
   unfolding decode
-  streams-count = row_count stream_codec stream_slots _
+  streams_count = row_count stream_codec stream_slots _
 
-  pub opens-count : length (decode bs).opens.rows ≡ open_slots
+  pub opens_count : length (decode bs).opens.rows ≡ open_slots
   unfolding decode
-  opens-count = row_count open_codec open_slots _
+  opens_count = row_count open_codec open_slots _
 
-  pub masks-count : (k : ℕ) → length (get_or (decode bs).volume.files k zero_file).masks ≡ accounts
+  pub masks_count : (k : ℕ) → length (get_or (decode bs).volume.files k zero_file).masks ≡ accounts
   unfolding decode
-  masks-count k =
+  masks_count k =
       decoded file_codec zero_file (λ f. length f.masks ≡ accounts) (λ cs. row_count (number 4) accounts _) refl file_slots k _
 
   pub link_names_count : (k : ℕ) → length (get_or (decode bs).volume.links k zero_link).name ≡ file_name_limit

@@ -16,13 +16,13 @@ module _ (l : List ℕ) (at : ℕ) where
       }
   file-parts = simp (take_min, drop-take, drop-drop, add_assoc)
 
-  pub link-parts : link_codec.decode (part l at link_size)
+  pub link_parts : link_codec.decode (part l at link_size)
       ≡ record {
         parent = record { 0 = from_bytes (part l at 2) };
         file = record { 0 = from_bytes (part l (at + 2) 2) };
         name = decode_row (number 2) file_name_limit (part l (at + 4) (2 * file_name_limit));
       }
-  link-parts = simp (take_min, drop-take, drop-drop, add_assoc)
+  link_parts = simp (take_min, drop-take, drop-drop, add_assoc)
 
   pub counts-parts : counts_codec.decode (part l at counts_codec.size)
       ≡ record {

@@ -3,17 +3,17 @@ use Rattle.base.{specs.Base.{ℕ, zero, suc, ◌<◌, ◌≡◌, Bool, true, fal
 use Rattle.codecs.{specs.Codec.{Lawful, Below}, proofs.Laws.{number_lawful, cases_lawful, both_lawful, via_lawful, row_lawful}}
 use Rattle.layout.specs.{Kinds.{kinds, marks, kind_of, kind_number, mark_of, mark_number}, Records.{kind_codec, mark_codec, file_no_codec, stream_no_codec, handle_codec, file_codec, link_codec, counts_codec, stream_codec, open_codec}, Fits.{FileFits, LinkFits, CountsFit, StreamFits, OpenFits}}
 
-pub kind-number : (k : FileType) → kind_number k < kinds
+pub kind_number_lem : (k : FileType) → kind_number k < kinds
 unfolding kind_number
-kind-number Unused = omega arith
-kind-number Data = omega arith
-kind-number Directory = omega arith
+kind_number_lem Unused = omega arith
+kind_number_lem Data = omega arith
+kind_number_lem Directory = omega arith
 
-pub kind-there : (k : FileType) → kind_of (kind_number k) ≡ k
+pub kind_there : (k : FileType) → kind_of (kind_number k) ≡ k
 unfolding kind_number kind_of
-kind-there Unused = refl
-kind-there Data = refl
-kind-there Directory = refl
+kind_there Unused = refl
+kind_there Data = refl
+kind_there Directory = refl
 
 pub kind_again : (n : ℕ) → n < kinds → kind_number (kind_of n) ≡ n
 unfolding kind_number kind_of
@@ -37,7 +37,7 @@ mark_again zero h = refl
 mark_again (suc n) h = omega arith
 
 pub kind_lawful : Lawful kind_codec (λ k. Unit {0})
-kind_lawful = cases_lawful kinds kind_of kind_number (omega arith) kind-number kind-there kind_again
+kind_lawful = cases_lawful kinds kind_of kind_number (omega arith) kind_number_lem kind_there kind_again
 
 pub mark_lawful : Lawful mark_codec (λ m. Unit {0})
 mark_lawful = cases_lawful marks mark_of mark_number (omega arith) mark_number_lem mark_there mark_again

@@ -2,50 +2,50 @@
 use Rattle.base.{specs.Base.{ℕ, ◌+◌, ◌*◌, ◌<◌, ◌≤◌, ◌≡◌, Bool, true, ◌&&◌, List, eqb, ltb, length, take, drop, accounts, file_name_limit, stream_name_limit, file_slots, link_slots, stream_slots, open_slots}, proofs.Laws.{refl, ◌∙◌, ap, ap₂, arith}}
 use lib.Seq.{drop-drop}
 use native.Mathlib.Nat.{add_assoc}
-use Rattle.codecs.{specs.Codec.{number, row_stands}, proofs.{Fields.part-part, Standing.all-stand}}
+use Rattle.codecs.{specs.Codec.{number, row_stands}, proofs.{Fields.part-part, Standing.all_stand}}
 use Rattle.little_endian.{specs.LittleEndian.{from_bytes, part}, proofs.Parts.{take_min, drop-take}}
 use Rattle.layout.specs.{Kinds.{kinds, marks}, Records.{file_codec, link_codec, stream_codec, open_codec}, Layout.{tables_size, file_size, stream_size, open_size, files_codec, links_codec, streams_codec, files_at, links_at, streams_at, opens_at, file_mark_in, stream_mark_in, open_mark_in, stands_for_tables}}
 
-numbers-stand : (w n : ℕ) (bs : List ℕ) → row_stands (number w) n bs ≡ true
-numbers-stand w n bs = all-stand (number w) (λ cs. refl) n bs
+numbers_stand : (w n : ℕ) (bs : List ℕ) → row_stands (number w) n bs ≡ true
+numbers_stand w n bs = all_stand (number w) (λ cs. refl) n bs
 
 -- a record, by the places of its kind and of its mark
 module _ (l : List ℕ) (at : ℕ) where
-  pub file-stands : file_codec.stands (part l at file_size)
+  pub file_stands : file_codec.stands (part l at file_size)
       ≡ (ltb (from_bytes (part l at 2)) kinds && ltb (from_bytes (part l (at + file_mark_in) 2)) marks)
-  file-stands = simp (numbers-stand, take_min, drop-take, drop-drop, add_assoc)
+  file_stands = simp (numbers_stand, take_min, drop-take, drop-drop, add_assoc)
 
-  pub stream-stands : stream_codec.stands (part l at stream_size)
+  pub stream_stands : stream_codec.stands (part l at stream_size)
       ≡ (ltb (from_bytes (part l at 2)) kinds && ltb (from_bytes (part l (at + stream_mark_in) 2)) marks)
-  stream-stands = simp (numbers-stand, take_min, drop-take, drop-drop, add_assoc)
+  stream_stands = simp (numbers_stand, take_min, drop-take, drop-drop, add_assoc)
 
   open_stands : open_codec.stands (part l at open_size) ≡ ltb (from_bytes (part l (at + open_mark_in) 2)) marks
   open_stands = simp (drop-take, drop-drop, add_assoc)
 
-link-stands : (cs : List ℕ) → link_codec.stands cs ≡ true
-link-stands cs = numbers-stand 2 file_name_limit (drop 2 (drop 2 cs))
+link_stands : (cs : List ℕ) → link_codec.stands cs ≡ true
+link_stands cs = numbers_stand 2 file_name_limit (drop 2 (drop 2 cs))
 
-links-stand : (bs : List ℕ) → row_stands link_codec link_slots bs ≡ true
-links-stand bs = all-stand link_codec link-stands link_slots bs
+links_stand : (bs : List ℕ) → row_stands link_codec link_slots bs ≡ true
+links_stand bs = all_stand link_codec link_stands link_slots bs
 
 glued : (q m f l s o : Bool) → l ≡ true → (q && (m && (f && (l && (s && o))))) ≡ (q && (m && (f && (s && o))))
 glued q m f l s o e = rw e
 
 -- where the files, the streams and the opens begin
-at-files : (bs : List ℕ) → drop 8 (drop 2 bs) ≡ drop files_at bs
-at-files bs = drop-drop 8 2 bs
+at_files : (bs : List ℕ) → drop 8 (drop 2 bs) ≡ drop files_at bs
+at_files bs = drop-drop 8 2 bs
 
-at-streams : (bs : List ℕ) → drop links_codec.size (drop files_codec.size (drop 8 (drop 2 bs))) ≡ drop streams_at bs
-at-streams bs =
-    ap (λ (l : List ℕ). drop links_codec.size (drop files_codec.size l)) (at-files bs)
+at_streams : (bs : List ℕ) → drop links_codec.size (drop files_codec.size (drop 8 (drop 2 bs))) ≡ drop streams_at bs
+at_streams bs =
+    ap (λ (l : List ℕ). drop links_codec.size (drop files_codec.size l)) (at_files bs)
     ∙ ap (drop links_codec.size) (drop-drop files_codec.size files_at bs)
     ∙ drop-drop links_codec.size links_at bs
 
-at-opens : (bs : List ℕ)
+at_opens : (bs : List ℕ)
     → drop streams_codec.size (drop links_codec.size (drop files_codec.size (drop 8 (drop 2 bs)))) ≡ drop opens_at bs
-at-opens bs = ap (drop streams_codec.size) (at-streams bs) ∙ drop-drop streams_codec.size streams_at bs
+at_opens bs = ap (drop streams_codec.size) (at_streams bs) ∙ drop-drop streams_codec.size streams_at bs
 
-pub tables-stand : (bs : List ℕ)
+pub tables_stand : (bs : List ℕ)
     → stands_for_tables bs
     ≡ (eqb (length bs) tables_size
     && (ltb (from_bytes (part bs 0 2)) marks
@@ -53,7 +53,7 @@ pub tables-stand : (bs : List ℕ)
     && (row_stands stream_codec stream_slots (part bs streams_at streams_codec.size)
     && row_stands open_codec open_slots (drop opens_at bs)))))
 unfolding stands_for_tables
-tables-stand bs =
+tables_stand bs =
     let files = drop 8 (drop 2 bs) in
     let links = drop files_codec.size files in
     let streams = drop links_codec.size links in
@@ -62,13 +62,13 @@ tables-stand bs =
     (row_stands link_codec link_slots (take links_codec.size links))
     (row_stands stream_codec stream_slots (take streams_codec.size streams))
     (row_stands open_codec open_slots (drop streams_codec.size streams))
-    (links-stand (take links_codec.size links))
+    (links_stand (take links_codec.size links))
     ∙ (λ i.
     eqb (length bs) tables_size
     && (ltb (from_bytes (part bs 0 2)) marks
-    && (row_stands file_codec file_slots (take files_codec.size (at-files bs i))
-    && (row_stands stream_codec stream_slots (take streams_codec.size (at-streams bs i))
-    && row_stands open_codec open_slots (at-opens bs i)))))
+    && (row_stands file_codec file_slots (take files_codec.size (at_files bs i))
+    && (row_stands stream_codec stream_slots (take streams_codec.size (at_streams bs i))
+    && row_stands open_codec open_slots (at_opens bs i)))))
 
 -- record i of a table, among the table's bytes and among all
 module _ (b : List ℕ) (i : ℕ) where

@@ -33,39 +33,39 @@ pub encode-length : (t : Tables) → TablesFit t → length (encode t) ≡ table
 unfolding encode
 encode-length t h = tables_lawful.long t h
 
-pub stands-length : (bs : List ℕ) → stands_for_tables bs ≡ true → length bs ≡ tables_size
+pub stands_length : (bs : List ℕ) → stands_for_tables bs ≡ true → length bs ≡ tables_size
 unfolding stands_for_tables
-stands-length bs s = eqb-true _ _ ((and-eq-true_iff _ _).0 s).0
+stands_length bs s = eqb-true _ _ ((and-eq-true_iff _ _).0 s).0
 
 pub stands_codec : (bs : List ℕ) → stands_for_tables bs ≡ true → tables_codec.stands bs ≡ true
 unfolding stands_for_tables
 stands_codec bs s = ((and-eq-true_iff (eqb (length bs) tables_size) _).0 s).1
 
-pub stands-both : (bs : List ℕ) → length bs ≡ tables_size → tables_codec.stands bs ≡ true → stands_for_tables bs ≡ true
+pub stands_both : (bs : List ℕ) → length bs ≡ tables_size → tables_codec.stands bs ≡ true → stands_for_tables bs ≡ true
 unfolding stands_for_tables
-stands-both bs l s = (and-eq-true_iff _ _).1 (eq-eqb _ _ l, s)
+stands_both bs l s = (and-eq-true_iff _ _).1 (eq-eqb _ _ l, s)
 
 -- the bytes of tables stand for tables
-pub encode-stands : (t : Tables) → TablesFit t → stands_for_tables (encode t) ≡ true
+pub encode_stands : (t : Tables) → TablesFit t → stands_for_tables (encode t) ≡ true
 unfolding encode
-encode-stands t h = stands-both (tables_codec.encode t) (tables_lawful.long t h) (tables_lawful.stand t h)
+encode_stands t h = stands_both (tables_codec.encode t) (tables_lawful.long t h) (tables_lawful.stand t h)
 
 -- bytes that stand for tables are the bytes of those tables
 pub encode-decode : (bs : List ℕ) → Bytes bs → stands_for_tables bs ≡ true → encode (decode bs) ≡ bs
 unfolding decode encode
-encode-decode bs b s = tables_lawful.forth bs b (stands-length bs s) (stands_codec bs s)
+encode-decode bs b s = tables_lawful.forth bs b (stands_length bs s) (stands_codec bs s)
 
 -- two lists of bytes that stand for the same tables are equal
 pub same_tables : (xs ys : List ℕ) → Bytes xs → Bytes ys → stands_for_tables xs ≡ true → stands_for_tables ys ≡ true
     → decode xs ≡ decode ys → xs ≡ ys
 unfolding decode
 same_tables xs ys a b s t e =
-    same_bytes tables_lawful xs ys a b (stands-length xs s) (stands-length ys t) (stands_codec xs s) (stands_codec ys t) e
+    same_bytes tables_lawful xs ys a b (stands_length xs s) (stands_length ys t) (stands_codec xs s) (stands_codec ys t) e
 
 -- tables that the bytes of a slice stand for fit
-pub decode-fits : (bs : List ℕ) → Bytes bs → length bs ≡ tables_size → TablesFit (decode bs)
+pub decode_fits : (bs : List ℕ) → Bytes bs → length bs ≡ tables_size → TablesFit (decode bs)
 unfolding decode
-decode-fits bs b l = tables_lawful.fits bs b l
+decode_fits bs b l = tables_lawful.fits bs b l
 
 -- the sizes as docs/LAYOUT.md gives them
 pub sizes : (tables_size ≡ 45322) × (files_at ≡ 10) × (links_at ≡ 5130) × (streams_at ≡ 18186) × (opens_at ≡ 39690)

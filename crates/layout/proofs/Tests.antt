@@ -3,11 +3,11 @@ use Rattle.base.{specs.Base.{ℕ, zero, suc, ◌≡◌, not, eqb, Directory}, pr
 use lib.Dec.{eqb-suc-zero}
 use Rattle.layout.specs.Kinds.{kind_of, mark_of}
 
-pub directory-kind : (n : ℕ) → (n ≡ 0 → ⊥) → (n ≡ 1 → ⊥) → Directory ≡ kind_of n
+pub directory_kind : (n : ℕ) → (n ≡ 0 → ⊥) → (n ≡ 1 → ⊥) → Directory ≡ kind_of n
 unfolding kind_of
-directory-kind zero h k = absurd (h refl)
-directory-kind (suc zero) h k = absurd (k refl)
-directory-kind (suc (suc n)) h k = refl
+directory_kind zero h k = absurd (h refl)
+directory_kind (suc zero) h k = absurd (k refl)
+directory_kind (suc (suc n)) h k = refl
 
 pub mark_test : (n : ℕ) → not (eqb n 0) ≡ mark_of n
 unfolding mark_of

@@ -3,16 +3,16 @@ use Prim.Native.Nat.{ℕ, zero, suc, ◌+◌, ◌≤◌, ◌<◌}
 use lib.{ListN.{length, get_or, drop, drop_of_length-le}, Seq.drop-cons}
 use mathlib.Core.{Path.{◌≡◌, refl, sym, ◌∙◌, ap, ap₂}, Bool.{Bool, true, false, not, ◌&&◌, and_assoc, and-true}, List.{List, [], ◌∷◌, map}}
 use native.Mathlib.{Numerals.add-one, Omega.arith}
-use Rattle.lists.proofs.{Tests.{by_cases, not_both, not_is, and_left, and_right, and_both}, Places.{used-below, drop-next}}
+use Rattle.lists.proofs.{Tests.{by_cases, not_both, not_is, and_left, and_right, and_both}, Places.{used_below, drop_next}}
 use Rattle.lists.specs.Lists.{all, all_from}
 
 -- at each place
 module _ {A : Type 0} (p : A → Bool) (d : A) where
-  pub all-at : (xs : List A) → all p xs ≡ true → (i : ℕ) → i < length xs → p (get_or xs i d) ≡ true
+  pub all_at : (xs : List A) → all p xs ≡ true → (i : ℕ) → i < length xs → p (get_or xs i d) ≡ true
   unfolding all
-  all-at [] h i b = absurd (let z : ⊥ = omega arith in z)
-  all-at (x ∷ xs) h zero b = and_left (p x) (all p xs) h
-  all-at (x ∷ xs) h (suc i) b = all-at xs (and_right (p x) (all p xs) h) i (omega arith)
+  all_at [] h i b = absurd (let z : ⊥ = omega arith in z)
+  all_at (x ∷ xs) h zero b = and_left (p x) (all p xs) h
+  all_at (x ∷ xs) h (suc i) b = all_at xs (and_right (p x) (all p xs) h) i (omega arith)
 
   pub all_of : (xs : List A) → ((i : ℕ) → i < length xs → p (get_or xs i d) ≡ true) → all p xs ≡ true
   unfolding all
@@ -23,17 +23,17 @@ module _ {A : Type 0} (p : A → Bool) (d : A) where
   pub all_slots : p d ≡ true → (xs : List A) → all p xs ≡ true → (i : ℕ) → p (get_or xs i d) ≡ true
   all_slots hd xs h i =
       by_cases (p (get_or xs i d)) (λ e. e)
-      (λ e. absurd (not_both (all-at xs h i (used-below (λ x. not (p x)) d (ap not hd) xs i (not_is e))) e))
+      (λ e. absurd (not_both (all_at xs h i (used_below (λ x. not (p x)) d (ap not hd) xs i (not_is e))) e))
 
 -- one step, and the end
 module _ {A : Type 0} (p : A → Bool) (xs : List A) (i : ℕ) where
   pub all_fails : (d : A) → i < length xs → p (get_or xs i d) ≡ false → all p (drop i xs) ≡ false
   unfolding all
-  all_fails d h e = rw (drop-next xs i d h, e)
+  all_fails d h e = rw (drop_next xs i d h, e)
 
-  pub all-next : (d : A) → i < length xs → p (get_or xs i d) ≡ true → all p (drop i xs) ≡ all p (drop (i + 1) xs)
+  pub all_next : (d : A) → i < length xs → p (get_or xs i d) ≡ true → all p (drop i xs) ≡ all p (drop (i + 1) xs)
   unfolding all
-  all-next d h e = rw (drop-next xs i d h, e)
+  all_next d h e = rw (drop_next xs i d h, e)
 
   pub all_end : length xs ≤ i → all p (drop i xs) ≡ true
   unfolding all
@@ -45,7 +45,7 @@ module _ {A : Type 0} (p : A → Bool) (xs : List A) (i : ℕ) where
     unfolding all
     all_gathered d h {test} e =
         inv
-        ∙ ap (λ (b : Bool). sofar && b) (ap (all p) (drop-next xs i d h) ∙ ap (λ (b : Bool). b && all p (drop (i + 1) xs)) (sym e))
+        ∙ ap (λ (b : Bool). sofar && b) (ap (all p) (drop_next xs i d h) ∙ ap (λ (b : Bool). b && all p (drop (i + 1) xs)) (sym e))
         ∙ sym (and_assoc sofar test (all p (drop (i + 1) xs)))
 
     pub all_gathered_end : length xs ≤ i → sofar ≡ whole
@@ -64,13 +64,13 @@ module _ {A : Type 0} where
   numbered_shift p n [] = refl
   numbered_shift p n (x ∷ xs) = ap (λ (b : Bool). p (suc n) x && b) (numbered_shift p (suc n) xs)
 
-  pub numbered-at : (p : ℕ → A → Bool) (d : A) (xs : List A) → all_from p 0 xs ≡ true → (i : ℕ) → i < length xs
+  pub numbered_at : (p : ℕ → A → Bool) (d : A) (xs : List A) → all_from p 0 xs ≡ true → (i : ℕ) → i < length xs
       → p i (get_or xs i d) ≡ true
   unfolding all_from
-  numbered-at p d [] h i b = absurd (let z : ⊥ = omega arith in z)
-  numbered-at p d (x ∷ xs) h zero b = and_left (p 0 x) (all_from p 1 xs) h
-  numbered-at p d (x ∷ xs) h (suc i) b =
-      numbered-at (λ m. p (suc m)) d xs (sym (numbered_shift p 0 xs) ∙ and_right (p 0 x) (all_from p 1 xs) h) i (omega arith)
+  numbered_at p d [] h i b = absurd (let z : ⊥ = omega arith in z)
+  numbered_at p d (x ∷ xs) h zero b = and_left (p 0 x) (all_from p 1 xs) h
+  numbered_at p d (x ∷ xs) h (suc i) b =
+      numbered_at (λ m. p (suc m)) d xs (sym (numbered_shift p 0 xs) ∙ and_right (p 0 x) (all_from p 1 xs) h) i (omega arith)
 
   pub numbered_of : (p : ℕ → A → Bool) (d : A) (xs : List A) → ((i : ℕ) → i < length xs → p i (get_or xs i d) ≡ true)
       → all_from p 0 xs ≡ true
@@ -81,9 +81,9 @@ module _ {A : Type 0} where
       (numbered_shift p 0 xs ∙ numbered_of (λ m. p (suc m)) d xs (λ i b. h (suc i) (omega arith)))
 
   module _ (p : ℕ → A → Bool) (xs : List A) (i : ℕ) where
-    pub numbered-stops : (d : A) → i < length xs → p i (get_or xs i d) ≡ false → all_from p i (drop i xs) ≡ false
+    pub numbered_stops : (d : A) → i < length xs → p i (get_or xs i d) ≡ false → all_from p i (drop i xs) ≡ false
     unfolding all_from
-    numbered-stops d below e = rw (drop-cons xs i d below, all_from, e)
+    numbered_stops d below e = rw (drop-cons xs i d below, all_from, e)
 
     pub numbered_next : (d : A) → i < length xs → p i (get_or xs i d) ≡ true
         → all_from p i (drop i xs) ≡ all_from p (i + 1) (drop (i + 1) xs)
@@ -95,9 +95,9 @@ module _ {A : Type 0} where
     numbered_end h = rw (drop_of_length-le xs h)
 
   -- two tests that agree at every number that the list has
-  pub numbered-same : (p q : ℕ → A → Bool) (n : ℕ) (xs : List A) → ((i : ℕ) → i < n + length xs → (x : A) → p i x ≡ q i x)
+  pub numbered_same : (p q : ℕ → A → Bool) (n : ℕ) (xs : List A) → ((i : ℕ) → i < n + length xs → (x : A) → p i x ≡ q i x)
       → all_from p n xs ≡ all_from q n xs
   unfolding all_from
-  numbered-same p q n [] h = refl
-  numbered-same p q n (x ∷ xs) h =
-      ap₂ (λ (b c : Bool). b && c) (h n (omega arith) x) (numbered-same p q (suc n) xs (λ i b y. h i (omega arith) y))
+  numbered_same p q n [] h = refl
+  numbered_same p q n (x ∷ xs) h =
+      ap₂ (λ (b c : Bool). b && c) (h n (omega arith) x) (numbered_same p q (suc n) xs (λ i b y. h i (omega arith) y))

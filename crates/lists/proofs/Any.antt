@@ -3,7 +3,7 @@ use Prim.Native.Nat.{ℕ, zero, suc, ◌+◌, ◌≤◌, ◌<◌}
 use lib.ListN.{length, get_or, set, drop, drop_of_length-le}
 use mathlib.Core.{Path.{◌≡◌, refl, ◌∙◌, ap, ap₂}, Bool.{Bool, true, false, not, ◌&&◌, ◌||◌, false≢true}, List.{List, [], ◌∷◌}, Logic.⊎_elim}
 use native.Mathlib.Omega.{arith}
-use Rattle.lists.proofs.{Tests.{refuted, not_both, or_cases, or_left, or_right, or_neither}, Places.drop-next}
+use Rattle.lists.proofs.{Tests.{refuted, not_both, or_cases, or_left, or_right, or_neither}, Places.drop_next}
 use Rattle.lists.specs.Lists.{all, any}
 
 -- at a place
@@ -32,11 +32,11 @@ module _ {A : Type 0} (p : A → Bool) (d : A) where
 module _ {A : Type 0} (p : A → Bool) (xs : List A) (i : ℕ) where
   pub any_here : (d : A) → i < length xs → p (get_or xs i d) ≡ true → any p (drop i xs) ≡ true
   unfolding any
-  any_here d h e = rw (drop-next xs i d h, e)
+  any_here d h e = rw (drop_next xs i d h, e)
 
   pub any_next : (d : A) → i < length xs → p (get_or xs i d) ≡ false → any p (drop i xs) ≡ any p (drop (i + 1) xs)
   unfolding any
-  any_next d h e = rw (drop-next xs i d h, e)
+  any_next d h e = rw (drop_next xs i d h, e)
 
   pub any_none : length xs ≤ i → any p (drop i xs) ≡ false
   unfolding any
@@ -86,9 +86,9 @@ module _ {A : Type 0} where
       ap₂ (λ (a b : Bool). a || b) (i x n.0) (none_too p q i xs n.1)
 
   -- no element passes, and one that fails is set
-  pub none-set : (p : A → Bool) (xs : List A) (i : ℕ) (y : A) → p y ≡ false → any p xs ≡ false → any p (set xs i y) ≡ false
+  pub none_set : (p : A → Bool) (xs : List A) (i : ℕ) (y : A) → p y ≡ false → any p xs ≡ false → any p (set xs i y) ≡ false
   unfolding any
-  none-set p [] i y n h = refl
-  none-set p (x ∷ xs) zero y n h = ap₂ (λ (a b : Bool). a || b) n (or_neither (p x) (any p xs) h).1
-  none-set p (x ∷ xs) (suc i) y n h =
-      let r = or_neither (p x) (any p xs) h in ap₂ (λ (a b : Bool). a || b) r.0 (none-set p xs i y n r.1)
+  none_set p [] i y n h = refl
+  none_set p (x ∷ xs) zero y n h = ap₂ (λ (a b : Bool). a || b) n (or_neither (p x) (any p xs) h).1
+  none_set p (x ∷ xs) (suc i) y n h =
+      let r = or_neither (p x) (any p xs) h in ap₂ (λ (a b : Bool). a || b) r.0 (none_set p xs i y n r.1)

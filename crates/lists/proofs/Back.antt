@@ -3,7 +3,7 @@ use Prim.Native.Nat.{ℕ, zero, suc, ◌-◌, ◌≤◌, ◌<◌}
 use lib.{ListN.{length, get_or, set, drop, drop_of_length-le, length-set}, Seq.{drop-cons, get_or-set_same}}
 use mathlib.Core.{Path.{◌≡◌, refl, sym, ◌∙◌, ap}, Bool.{Bool, true, false}, List.{List, [], ◌∷◌, map}}
 use native.Mathlib.Omega.{arith}
-use Rattle.lists.proofs.{Tests.{refuted, not_both, and_both}, Places.drop-back, All.all-at}
+use Rattle.lists.proofs.{Tests.{refuted, not_both, and_both}, Places.drop_back, All.all_at}
 use Rattle.lists.specs.Lists.{all}
 
 -- each element from place i on passes, and the keys from there on are theirs
@@ -37,12 +37,12 @@ module _ {A : Type 0} (p : A → Bool) (key : A → ℕ) (xs : List A) where
     here = get_or xs (i - 1) d
 
     pub scan_fails : p here ≡ false → all p xs ≡ false
-    scan_fails e = refuted (all p xs) (λ h. not_both (all-at p d xs h (i - 1) (omega (arith, scanned.place))) e)
+    scan_fails e = refuted (all p xs) (λ h. not_both (all_at p d xs h (i - 1) (omega (arith, scanned.place))) e)
 
     pub scan_back : p here ≡ true → {k : ℕ} → k ≡ key here → Scanned p key xs (set keys (i - 1) k) (i - 1)
     unfolding all
     scan_back e {k} q =
-        let more = drop-back xs i d positive scanned.place in
+        let more = drop_back xs i d positive scanned.place in
         let w = set keys (i - 1) k in
         let long = length-set keys (i - 1) k in
         record {
@@ -50,7 +50,7 @@ module _ {A : Type 0} (p : A → Bool) (key : A → ℕ) (xs : List A) where
           size = long ∙ scanned.size;
           passes = rw more (and_both e scanned.passes);
           keyed =
-              drop-back w i 0 positive (omega (arith, scanned.place, scanned.size))
+              drop_back w i 0 positive (omega (arith, scanned.place, scanned.size))
               ∙ ap (λ (ks : List ℕ). get_or w (i - 1) 0 ∷ ks) (drop-set keys (i - 1) i k (omega arith) ∙ scanned.keyed)
               ∙ ap (λ (n : ℕ). n ∷ map key (drop i xs)) (get_or-set_same keys (i - 1) k 0 (omega (arith, scanned.place, scanned.size)) ∙ q)
               ∙ ap (map key) (sym more);

@@ -4,7 +4,7 @@ use borrow.Author.Tests.{eqb-true, eqb-false}
 use lib.{Dec.eqb, ListN.{length, get_or, set, length-set, length-map, get_or-map}, Seq.{get_or-set_same, get_or-set_other}}
 use mathlib.Core.{Path.{◌≡◌, sym, ◌∙◌, ap}, Bool.{Bool, true, false, cond}, List.{List, map}}
 use native.Mathlib.Omega.{arith}
-use Rattle.lists.proofs.{Tests.{by_cases, cond_true, cond_false}, Any.{any_fails, none_of}, Count.count-places}
+use Rattle.lists.proofs.{Tests.{by_cases, cond_true, cond_false}, Any.{any_fails, none_of}, Count.count_places}
 use Rattle.lists.specs.Lists.{any, count}
 
 -- the places where `gone` passes have the default
@@ -15,16 +15,16 @@ pub record Clears {A : Type 0} (d : A) (gone : ℕ → Bool) (xs ys : List A) : 
 
 -- one place, and those that pass a test
 module _ {A : Type 0} (d : A) (xs : List A) where
-  pub set-clears : (i : ℕ) → i < length xs → Clears d (λ j. eqb j i) xs (set xs i d)
-  set-clears i b =
+  pub set_clears : (i : ℕ) → i < length xs → Clears d (λ j. eqb j i) xs (set xs i d)
+  set_clears i b =
       record {
         same_length = length-set xs i d;
         stays = λ j e. get_or-set_other xs i j d d (eqb-false j i e);
         goes = λ j e. ap (λ (k : ℕ). get_or (set xs i d) k d) (eqb-true j i e) ∙ get_or-set_same xs i d d b;
       }
 
-  pub map-clears : (p : A → Bool) → Clears d (λ i. p (get_or xs i d)) xs (map (λ x. cond (p x) d x) xs)
-  map-clears p =
+  pub map_clears : (p : A → Bool) → Clears d (λ i. p (get_or xs i d)) xs (map (λ x. cond (p x) d x) xs)
+  map_clears p =
       record {
         same_length = length-map xs (λ x. cond (p x) d x);
         stays = λ i e. at i ∙ cond_false d (get_or xs i d) e;
@@ -50,7 +50,7 @@ module _ {A : Type 0} {d : A} {gone : ℕ → Bool} {xs ys : List A} (c : Clears
         by_cases (gone i) (λ e. ap q (c.goes i e) ∙ free ∙ sym (none i e)) (λ e. ap q (c.stays i e))
 
     pub count_clear : ((i : ℕ) → gone i ≡ true → q (get_or xs i d) ≡ false) → count q ys ≡ count q xs
-    count_clear none = count-places q d ys xs c.same_length (clear_test none)
+    count_clear none = count_places q d ys xs c.same_length (clear_test none)
 
     -- no more of them pass
     pub none_clear : any q xs ≡ false → any q ys ≡ false

@@ -29,15 +29,15 @@ module _ {A : Type 0} (p : A → Bool) where
       let h = count_bound xs in by_cases (p x) (λ e. rw e (omega arith)) (λ e. rw e (omega arith))
 
   -- some element passes exactly where the count isn't zero
-  pub count-some : (xs : List A) → not (eqb (count p xs) 0) ≡ any p xs
+  pub count_some : (xs : List A) → not (eqb (count p xs) 0) ≡ any p xs
   unfolding count any
-  count-some [] = refl
-  count-some (x ∷ xs) =
+  count_some [] = refl
+  count_some (x ∷ xs) =
       by_cases (p x) (λ e. rw e (ap not (ne_eqb (suc (count p xs)) 0 (λ z. let w : ⊥ = omega arith in w))))
-      (λ e. rw e (count-some xs))
+      (λ e. rw e (count_some xs))
 
   pub any-count : (xs : List A) → any p xs ≡ false → count p xs ≡ 0
-  any-count xs h = eqb-true (count p xs) 0 (not-false (eqb (count p xs) 0) (count-some xs ∙ h))
+  any-count xs h = eqb-true (count p xs) 0 (not-false (eqb (count p xs) 0) (count_some xs ∙ h))
 
   -- none passes at any place
   pub count_none : (d : A) (xs : List A) → ((i : ℕ) → p (get_or xs i d) ≡ true → ⊥) → count p xs ≡ 0
@@ -62,23 +62,23 @@ module _ {A : Type 0} (p q : A → Bool) (i : (x : A) → q x ≡ true → p x �
   count_fewer xs =
       ap (ltb (count q xs)) (count-split xs)
       ∙ more (count q xs) (count (λ x. p x && not (q x)) xs)
-      ∙ count-some (λ x. p x && not (q x)) xs
+      ∙ count_some (λ x. p x && not (q x)) xs
 
 module _ {A : Type 0} where
   -- some element fails exactly where fewer pass than there are
-  pub count-short : (p : A → Bool) (xs : List A) → any (λ x. not (p x)) xs ≡ ltb (count p xs) (length xs)
+  pub count_short : (p : A → Bool) (xs : List A) → any (λ x. not (p x)) xs ≡ ltb (count p xs) (length xs)
   unfolding count
-  count-short p xs = sym (count_fewer (λ x. true) p (λ x e. refl) xs) ∙ ap (ltb (count p xs)) (everyone xs)
+  count_short p xs = sym (count_fewer (λ x. true) p (λ x e. refl) xs) ∙ ap (ltb (count p xs)) (everyone xs)
     where
       everyone : (ys : List A) → count (λ y. true) ys ≡ length ys
       everyone [] = refl
       everyone (y ∷ ys) = ap suc (everyone ys)
 
   -- two lists whose places pass alike
-  pub count-places : (p : A → Bool) (d : A) (xs ys : List A) → length xs ≡ length ys
+  pub count_places : (p : A → Bool) (d : A) (xs ys : List A) → length xs ≡ length ys
       → ((i : ℕ) → p (get_or xs i d) ≡ p (get_or ys i d)) → count p xs ≡ count p ys
   unfolding count
-  count-places p d [] [] l h = refl
-  count-places p d [] (y ∷ ys) l h = absurd (let z : ⊥ = omega arith in z)
-  count-places p d (x ∷ xs) [] l h = absurd (let z : ⊥ = omega arith in z)
-  count-places p d (x ∷ xs) (y ∷ ys) l h = rw (h 0, count-places p d xs ys (omega arith) (λ i. h (suc i)))
+  count_places p d [] [] l h = refl
+  count_places p d [] (y ∷ ys) l h = absurd (let z : ⊥ = omega arith in z)
+  count_places p d (x ∷ xs) [] l h = absurd (let z : ⊥ = omega arith in z)
+  count_places p d (x ∷ xs) (y ∷ ys) l h = rw (h 0, count_places p d xs ys (omega arith) (λ i. h (suc i)))

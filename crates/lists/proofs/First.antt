@@ -40,9 +40,9 @@ module _ {A : Type 0} (p : A → Bool) where
           record { from = omega arith; below = omega (arith, q.2.below); passes = q.2.passes },
         ))
 
-    pub after-found : (xs : List A) (n k : ℕ) → first_after p n xs ≡ some k → Found p xs d n k
+    pub after_found : (xs : List A) (n k : ℕ) → first_after p n xs ≡ some k → Found p xs d n k
     unfolding first_after
-    after-found xs n k h =
+    after_found xs n k h =
         let q = from_found (drop n xs) n k h in
         let f = q.2 in
         record {
@@ -112,38 +112,38 @@ module _ {A B : Type 0} (f : A → B) (p : B → Bool) where
 -- the first element that passes
 module _ {A : Type 0} (p : A → Bool) where
   module _ (x : A) (xs : List A) where
-    pub find-here : p x ≡ true → find p (x ∷ xs) ≡ some x
+    pub find_here : p x ≡ true → find p (x ∷ xs) ≡ some x
     unfolding find
-    find-here e = rw (e, find)
+    find_here e = rw (e, find)
 
-    pub find-next : p x ≡ false → find p (x ∷ xs) ≡ find p xs
+    pub find_next : p x ≡ false → find p (x ∷ xs) ≡ find p xs
     unfolding find
-    find-next e = rw (e, find)
+    find_next e = rw (e, find)
 
   -- it stands at the first place that passes
-  find-from : (d : A) (xs : List A) (at : ℕ) (x : A) → find p xs ≡ some x
+  find_from : (d : A) (xs : List A) (at : ℕ) (x : A) → find p xs ≡ some x
       → (k : ℕ) × (first_from p xs at ≡ some (at + k)) × (get_or xs k d ≡ x)
   unfolding find
-  find-from d [] at x h = absurd (none≢some h)
-  find-from d (y ∷ ys) at x h =
+  find_from d [] at x h = absurd (none≢some h)
+  find_from d (y ∷ ys) at x h =
       by_cases (p y)
-      (λ e. (0, here p y ys at e ∙ ap some (omega arith), some-injective y x (sym (find-here y ys e) ∙ h)))
+      (λ e. (0, here p y ys at e ∙ ap some (omega arith), some-injective y x (sym (find_here y ys e) ∙ h)))
       (λ e.
-      let q = find-from d ys (suc at) x (sym (find-next y ys e) ∙ h) in
+      let q = find_from d ys (suc at) x (sym (find_next y ys e) ∙ h) in
       (suc q.0, next p y ys at e ∙ q.1 ∙ ap some (omega arith), q.2))
 
-  pub find-found : (d : A) (xs : List A) (x : A) → find p xs ≡ some x
+  pub find_found : (d : A) (xs : List A) (x : A) → find p xs ≡ some x
       → (k : ℕ) × (first p xs ≡ some k) × (get_or xs k d ≡ x)
   unfolding first_after
-  find-found d xs x h = let q = find-from d xs 0 x h in (q.0, q.1 ∙ ap some (omega arith), q.2)
+  find_found d xs x h = let q = find_from d xs 0 x h in (q.0, q.1 ∙ ap some (omega arith), q.2)
 
   -- among those kept by a test that it passes
-  pub find-keep : (used : A → Bool) → ((x : A) → p x ≡ true → used x ≡ true) → (xs : List A) → find p (keep used xs) ≡ find p xs
+  pub find_keep : (used : A → Bool) → ((x : A) → p x ≡ true → used x ≡ true) → (xs : List A) → find p (keep used xs) ≡ find p xs
   unfolding find keep
-  find-keep used i [] = refl
-  find-keep used i (x ∷ xs) =
+  find_keep used i [] = refl
+  find_keep used i (x ∷ xs) =
       by_cases (p x) (λ e. rw (i x e, e, find))
-      (λ e. by_cases (used x) (λ u. rw (u, e, find, find-keep used i xs)) (λ u. rw (u, e, find, find-keep used i xs)))
+      (λ e. by_cases (used x) (λ u. rw (u, e, find, find_keep used i xs)) (λ u. rw (u, e, find, find_keep used i xs)))
 
   -- no two pass: the order does not matter
   abbrev pub apart : A → A → Bool

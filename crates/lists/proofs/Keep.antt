@@ -3,7 +3,7 @@ use Prim.Native.Nat.{ℕ, ◌+◌, ◌≤◌, ◌<◌}
 use borrow.Author.Tests.{not-true}
 use lib.ListN.{length, get_or, drop, drop_of_length-le}
 use mathlib.Core.{Path.{◌≡◌, refl, sym, ◌∙◌, ap}, Bool.{Bool, true, false, not, ◌&&◌, ◌||◌}, List.{List, [], ◌∷◌, ◌++◌, map}}
-use Rattle.lists.proofs.{Tests.{by_cases, not_both, not_is, excluded, excludes, or_neither}, Places.{used-below, drop-next}, Any.{any_fails, none_of}}
+use Rattle.lists.proofs.{Tests.{by_cases, not_both, not_is, excluded, excludes, or_neither}, Places.{used_below, drop_next}, Any.{any_fails, none_of}}
 use Rattle.lists.specs.Lists.{all, any, count, keep}
 
 -- one element more
@@ -20,10 +20,10 @@ module _ {A : Type 0} (xs : List A) (i : ℕ) where
   -- one step: the place has the first of them, or it is passed over
   module _ (d : A) (below : i < length xs) (p : A → Bool) where
     pub kept_here : p (get_or xs i d) ≡ true → keep p (drop i xs) ≡ get_or xs i d ∷ keep p (drop (i + 1) xs)
-    kept_here e = ap (keep p) (drop-next xs i d below) ∙ keep_yes p (get_or xs i d) (drop (i + 1) xs) e
+    kept_here e = ap (keep p) (drop_next xs i d below) ∙ keep_yes p (get_or xs i d) (drop (i + 1) xs) e
 
-    pub kept-past : p (get_or xs i d) ≡ false → keep p (drop i xs) ≡ keep p (drop (i + 1) xs)
-    kept-past e = ap (keep p) (drop-next xs i d below) ∙ keep_no p (get_or xs i d) (drop (i + 1) xs) e
+    pub kept_past : p (get_or xs i d) ≡ false → keep p (drop i xs) ≡ keep p (drop (i + 1) xs)
+    kept_past e = ap (keep p) (drop_next xs i d below) ∙ keep_no p (get_or xs i d) (drop (i + 1) xs) e
 
     -- a test of each of them
     pub all_kept_fails : (q : A → Bool) → p (get_or xs i d) ≡ true → q (get_or xs i d) ≡ false → all q (keep p (drop i xs)) ≡ false
@@ -38,7 +38,7 @@ module _ {A : Type 0} (xs : List A) (i : ℕ) where
     -- it is not kept, or it passes
     pub all_kept_past : (q : A → Bool) → (p (get_or xs i d) ≡ true → q (get_or xs i d) ≡ true)
         → all q (keep p (drop i xs)) ≡ all q (keep p (drop (i + 1) xs))
-    all_kept_past q h = by_cases (p (get_or xs i d)) (λ e. all_kept_next q e (h e)) (λ e. ap (all q) (kept-past e))
+    all_kept_past q h = by_cases (p (get_or xs i d)) (λ e. all_kept_next q e (h e)) (λ e. ap (all q) (kept_past e))
 
   -- the end
   module _ (past : length xs ≤ i) (p : A → Bool) where
@@ -75,7 +75,7 @@ module _ {A : Type 0} (p q : A → Bool) where
       → (i : ℕ) → p (get_or xs i d) ≡ true → q (get_or xs i d) ≡ false
   none_kept_at d e xs h i u =
       excluded (p (get_or xs i d)) (q (get_or xs i d))
-      (not_is (any_fails (λ x. p x && q x) d xs (sym (any-keep xs) ∙ h) i (used-below p d e xs i u))) u
+      (not_is (any_fails (λ x. p x && q x) d xs (sym (any-keep xs) ∙ h) i (used_below p d e xs i u))) u
 
   pub none_kept_of : (d : A) (xs : List A) → ((i : ℕ) → p (get_or xs i d) ≡ true → q (get_or xs i d) ≡ false)
       → any q (keep p xs) ≡ false
@@ -91,15 +91,15 @@ module _ {A : Type 0} (p : A → Bool) where
   length-keep (x ∷ xs) = by_cases (p x) (λ e. rw (e, length-keep xs)) (λ e. rw e (length-keep xs))
 
   -- no element passes: none is kept, and by the opposite test all are
-  pub keep-none : (xs : List A) → any p xs ≡ false → keep p xs ≡ []
+  pub keep_none : (xs : List A) → any p xs ≡ false → keep p xs ≡ []
   unfolding any keep
-  keep-none [] h = refl
-  keep-none (x ∷ xs) h = let n = or_neither (p x) (any p xs) h in rw n.0 (keep-none xs n.1)
+  keep_none [] h = refl
+  keep_none (x ∷ xs) h = let n = or_neither (p x) (any p xs) h in rw n.0 (keep_none xs n.1)
 
-  pub keep-others : (xs : List A) → any p xs ≡ false → keep (λ x. not (p x)) xs ≡ xs
+  pub keep_others : (xs : List A) → any p xs ≡ false → keep (λ x. not (p x)) xs ≡ xs
   unfolding any keep
-  keep-others [] h = refl
-  keep-others (x ∷ xs) h = let n = or_neither (p x) (any p xs) h in rw (n.0, keep-others xs n.1)
+  keep_others [] h = refl
+  keep_others (x ∷ xs) h = let n = or_neither (p x) (any p xs) h in rw (n.0, keep_others xs n.1)
 
   -- two lists one after the other
   pub keep_append : (xs ys : List A) → keep p (xs ++ ys) ≡ keep p xs ++ keep p ys

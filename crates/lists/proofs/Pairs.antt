@@ -3,17 +3,17 @@ use Prim.Native.Nat.{ℕ, zero, suc, ◌+◌, ◌≤◌, ◌<◌}
 use lib.ListN.{length, get_or, drop}
 use mathlib.Core.{Path.{◌≡◌, refl, sym, ◌∙◌, ap, ap₂}, Bool.{Bool, true, false, not, ◌&&◌, ◌||◌}, List.{List, [], ◌∷◌, map}}
 use native.Mathlib.Omega.{arith}
-use Rattle.lists.proofs.{Tests.{by_cases, and_left, and_right, and_both, guarded, guard}, All.{all-at, all_of, all_map}, Keep.{all_keep, kept_here, kept-past, kept_end}}
+use Rattle.lists.proofs.{Tests.{by_cases, and_left, and_right, and_both, guarded, guard}, All.{all_at, all_of, all_map}, Keep.{all_keep, kept_here, kept_past, kept_end}}
 use Rattle.lists.specs.Lists.{all, pairs, keep}
 
 -- at every two places
 module _ {A : Type 0} (r : A → A → Bool) (d : A) where
-  pub pairs-at : (xs : List A) → pairs r xs ≡ true → (i j : ℕ) → i < j → j < length xs → r (get_or xs i d) (get_or xs j d) ≡ true
+  pub pairs_at : (xs : List A) → pairs r xs ≡ true → (i j : ℕ) → i < j → j < length xs → r (get_or xs i d) (get_or xs j d) ≡ true
   unfolding pairs
-  pairs-at [] h i j a b = absurd (let z : ⊥ = omega arith in z)
-  pairs-at (x ∷ xs) h i zero a b = absurd (let z : ⊥ = omega arith in z)
-  pairs-at (x ∷ xs) h zero (suc j) a b = all-at (r x) d xs (and_left (all (r x) xs) (pairs r xs) h) j (omega arith)
-  pairs-at (x ∷ xs) h (suc i) (suc j) a b = pairs-at xs (and_right (all (r x) xs) (pairs r xs) h) i j (omega arith) (omega arith)
+  pairs_at [] h i j a b = absurd (let z : ⊥ = omega arith in z)
+  pairs_at (x ∷ xs) h i zero a b = absurd (let z : ⊥ = omega arith in z)
+  pairs_at (x ∷ xs) h zero (suc j) a b = all_at (r x) d xs (and_left (all (r x) xs) (pairs r xs) h) j (omega arith)
+  pairs_at (x ∷ xs) h (suc i) (suc j) a b = pairs_at xs (and_right (all (r x) xs) (pairs r xs) h) i j (omega arith) (omega arith)
 
   pairs_of : (xs : List A) → ((i j : ℕ) → i < j → j < length xs → r (get_or xs i d) (get_or xs j d) ≡ true) → pairs r xs ≡ true
   unfolding pairs
@@ -24,10 +24,10 @@ module _ {A : Type 0} (r : A → A → Bool) (d : A) where
 
 -- the same among those kept: a test of every two of them is a test of every two
 module _ {A : Type 0} (p : A → Bool) (r : A → A → Bool) where
-  abbrev both-kept : A → A → Bool
-  both-kept x y = not (p x && p y) || r x y
+  abbrev both_kept : A → A → Bool
+  both_kept x y = not (p x && p y) || r x y
 
-  pairs-keep : (xs : List A) → pairs r (keep p xs) ≡ pairs both-kept xs
+  pairs-keep : (xs : List A) → pairs r (keep p xs) ≡ pairs both_kept xs
   unfolding pairs keep
   pairs-keep [] = refl
   pairs-keep (x ∷ xs) =
@@ -35,19 +35,19 @@ module _ {A : Type 0} (p : A → Bool) (r : A → A → Bool) where
       (λ e. rw (e, pairs-keep xs) (sym (ap passed e ∙ rw (all_of (λ y. true) x xs (λ i b. refl)))))
     where
       passed : Bool → Bool
-      passed b = all (λ y. not (b && p y) || r x y) xs && pairs both-kept xs
+      passed b = all (λ y. not (b && p y) || r x y) xs && pairs both_kept xs
 
   module _ (d : A) (xs : List A) where
     pub pairs_keep_at : pairs r (keep p xs) ≡ true → (i j : ℕ) → i < j → j < length xs
         → p (get_or xs i d) ≡ true → p (get_or xs j d) ≡ true → r (get_or xs i d) (get_or xs j d) ≡ true
     pairs_keep_at h i j a b pi pj =
-        guarded _ _ (pairs-at both-kept d xs (sym (pairs-keep xs) ∙ h) i j a b) (and_both pi pj)
+        guarded _ _ (pairs_at both_kept d xs (sym (pairs-keep xs) ∙ h) i j a b) (and_both pi pj)
 
     pub pairs_keep_of : ((i j : ℕ) → i < j → j < length xs → p (get_or xs i d) ≡ true → p (get_or xs j d) ≡ true
         → r (get_or xs i d) (get_or xs j d) ≡ true) → pairs r (keep p xs) ≡ true
     pairs_keep_of h =
         pairs-keep xs
-        ∙ pairs_of both-kept d xs
+        ∙ pairs_of both_kept d xs
         (λ i j a b.
         let x = get_or xs i d in
         let y = get_or xs j d in
@@ -68,7 +68,7 @@ module _ {A : Type 0} (xs : List A) (i : ℕ) where
     pub pairs_kept_past : (p (get_or xs i d) ≡ true → later ≡ true) → pairs r (keep p (drop i xs)) ≡ pairs r (keep p (drop (i + 1) xs))
     pairs_kept_past h =
         by_cases (p (get_or xs i d)) (λ e. pairs-kept d below p r e ∙ ap (λ (b : Bool). b && pairs r (keep p (drop (i + 1) xs))) (h e))
-        (λ e. ap (pairs r) (kept-past xs i d below p e))
+        (λ e. ap (pairs r) (kept_past xs i d below p e))
 
     pub pairs_kept_fails : p (get_or xs i d) ≡ true → later ≡ false → pairs r (keep p (drop i xs)) ≡ false
     pairs_kept_fails e f = pairs-kept d below p r e ∙ ap (λ (b : Bool). b && pairs r (keep p (drop (i + 1) xs))) f

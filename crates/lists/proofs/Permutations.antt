@@ -3,7 +3,7 @@ use Prim.Native.Nat.{ℕ, zero, suc, ◌<◌}
 use lib.{Dec.eqb, ListN.{length, get_or, set}}
 use mathlib.Core.{Path.{◌≡◌, refl, sym, ◌∙◌, ap, ap₂, subst}, Bool.{Bool, true, false, not, ◌&&◌}, List.{List, [], ◌∷◌, ◌++◌}}
 use native.Mathlib.Omega.{arith}
-use Rattle.lists.proofs.{Tests.{by_cases, and_swap, and_exchange}, Count.count-some, Keep.{keep_yes, keep_no, length-keep}}
+use Rattle.lists.proofs.{Tests.{by_cases, and_swap, and_exchange}, Count.count_some, Keep.{keep_yes, keep_no, length-keep}}
 use Rattle.lists.specs.Lists.{all, any, count, keep, pairs, Permutation, nil, skip, swap, both}
 
 module _ {A : Type 0} where
@@ -41,7 +41,7 @@ module _ {A : Type 0} where
     perm_count {xs} {ys} h = sym (length-keep p xs) ∙ perm_length (perm_keep h) ∙ length-keep p ys
 
     pub perm_any : {xs ys : List A} → Permutation xs ys → any p xs ≡ any p ys
-    perm_any {xs} {ys} h = sym (count-some p xs) ∙ ap (λ (n : ℕ). not (eqb n 0)) (perm_count h) ∙ count-some p ys
+    perm_any {xs} {ys} h = sym (count_some p xs) ∙ ap (λ (n : ℕ). not (eqb n 0)) (perm_count h) ∙ count_some p ys
 
     perm_all : {xs ys : List A} → Permutation xs ys → all p xs ≡ all p ys
     unfolding all

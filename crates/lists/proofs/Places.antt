@@ -13,20 +13,20 @@ get_d_default (x ∷ xs) zero d e h = refl
 get_d_default (x ∷ xs) (suc i) d e h = get_d_default xs i d e (omega arith)
 
 -- a place that passes is below the length, where the default fails
-pub used-below : {A : Type 0} (used : A → Bool) (d : A) → used d ≡ false → (xs : List A) (i : ℕ)
+pub used_below : {A : Type 0} (used : A → Bool) (d : A) → used d ≡ false → (xs : List A) (i : ℕ)
     → used (get_or xs i d) ≡ true → i < length xs
-used-below used d df [] i u = absurd (not_both u df)
-used-below used d df (x ∷ xs) zero u = omega arith
-used-below used d df (x ∷ xs) (suc i) u = let b = used-below used d df xs i u in omega arith
+used_below used d df [] i u = absurd (not_both u df)
+used_below used d df (x ∷ xs) zero u = omega arith
+used_below used d df (x ∷ xs) (suc i) u = let b = used_below used d df xs i u in omega arith
 
 module _ {A : Type 0} (xs : List A) (i : ℕ) (d : A) where
   -- what is left at place i is the element there, and what is left at the next
-  pub drop-next : i < length xs → drop i xs ≡ get_or xs i d ∷ drop (i + 1) xs
-  drop-next h = rw add-one (drop-cons xs i d h)
+  pub drop_next : i < length xs → drop i xs ≡ get_or xs i d ∷ drop (i + 1) xs
+  drop_next h = rw add-one (drop-cons xs i d h)
 
   -- a pass from the back: what was passed is `drop i xs`, and the element before it comes next
-  pub drop-back : 0 < i → i ≤ length xs → drop (i - 1) xs ≡ get_or xs (i - 1) d ∷ drop i xs
-  drop-back h k =
+  pub drop_back : 0 < i → i ≤ length xs → drop (i - 1) xs ≡ get_or xs (i - 1) d ∷ drop i xs
+  drop_back h k =
       drop-cons xs (i - 1) d (omega arith)
       ∙ ap (λ (n : ℕ). get_or xs (i - 1) d ∷ drop n xs) (let e : suc (i - 1) ≡ i = omega arith in e)
 

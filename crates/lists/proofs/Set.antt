@@ -30,13 +30,13 @@ module _ {A : Type 0} (d : A) where
       ]
 
   -- what holds of the new record at its place and held at every place holds at every place
-  pub set-placed : (P : ℕ → A → Type 0) (xs : List A) (i : ℕ) (y : A) → P i y → ((j : ℕ) → P j (get_or xs j d))
+  pub set_placed : (P : ℕ → A → Type 0) (xs : List A) (i : ℕ) (y : A) → P i y → ((j : ℕ) → P j (get_or xs j d))
       → (j : ℕ) → P j (get_or (set xs i y) j d)
-  set-placed P xs i y new old j = ⊎_elim (λ q. rw (q.1, q.0) new) (λ q. rw q (old j)) (set_either xs i j y)
+  set_placed P xs i y new old j = ⊎_elim (λ q. rw (q.1, q.0) new) (λ q. rw q (old j)) (set_either xs i j y)
 
   pub set-each : (P : A → Type 0) (xs : List A) (i : ℕ) (y : A) → P y → ((j : ℕ) → P (get_or xs j d))
       → (j : ℕ) → P (get_or (set xs i y) j d)
-  set-each P = set-placed (λ j. P)
+  set-each P = set_placed (λ j. P)
 
   -- the same of two places, for what does not depend on their order
   pub set-pairs : (R : A → A → Type 0) → ((a b : A) → R a b → R b a) → (xs : List A) (i : ℕ) (y : A)
@@ -63,11 +63,11 @@ module _ {A : Type 0} (xs : List A) (i : ℕ) (y d : A) (below : i < length xs) 
       )
 
 -- one of them passes: the record added, or one that passed before
-pub one-before : {n : ℕ} {b : Bool} → n ≡ 1 → b ≡ false → n + one b ≡ 1
-one-before {n} {b} e f = rw (e, f)
+pub one_before : {n : ℕ} {b : Bool} → n ≡ 1 → b ≡ false → n + one b ≡ 1
+one_before {n} {b} e f = rw (e, f)
 
-pub one-added : {n : ℕ} {b : Bool} → n ≡ 0 → b ≡ true → n + one b ≡ 1
-one-added {n} {b} e f = rw (e, f)
+pub one_added : {n : ℕ} {b : Bool} → n ≡ 0 → b ≡ true → n + one b ≡ 1
+one_added {n} {b} e f = rw (e, f)
 
 -- a free slot of a table, of which a test says which are used
 pub record FreeSlot {A : Type 0} (used : A → Bool) (d : A) (xs : List A) (k : ℕ) : Type 0 where
@@ -76,8 +76,8 @@ pub record FreeSlot {A : Type 0} (used : A → Bool) (d : A) (xs : List A) (k : 
 
 -- it is none of the used ones, so these stay when it is set, and another free slot stays free
 module _ {A : Type 0} {used : A → Bool} {d : A} {xs : List A} {i : ℕ} (slot : FreeSlot used d xs i) where
-  pub used-stays : (y : A) (j : ℕ) → used (get_or xs j d) ≡ true → get_or (set xs i y) j d ≡ get_or xs j d
-  used-stays y j u =
+  pub used_stays : (y : A) (j : ℕ) → used (get_or xs j d) ≡ true → get_or (set xs i y) j d ≡ get_or xs j d
+  used_stays y j u =
       get_or-set_other xs i j y d (λ e. not_both u (ap (λ (k : ℕ). used (get_or xs k d)) e ∙ slot.free))
 
   pub free_stays : (y : A) (j : ℕ) → (i ≡ j → ⊥) → FreeSlot used d xs j → FreeSlot used d (set xs i y) j

@@ -1,7 +1,7 @@
 -- The walk at a place of the path before the last component: at its end, at a component that leads into a directory, and
 -- at one that does not.
 use Rattle.base.{specs.Base.{ℕ, ◌≡◌, Bool, true, false, cond, List, [], ◌∷◌, Option, none, some, drop, is_empty, not, root, is_directory, Namespace, namespace, Checked, refused, passed, refuse, ◌>>=◌, ◌>>◌, refuse_if, Status, ObjectPathNotFound, DeletePending, FileNo, LinkNo, FileType, Volume}, proofs.Laws.{refl}}
-use Rattle.components.{specs.{Components.components, Positions.{next_component, part_of}}, proofs.Places.{next-found, next-none}}
+use Rattle.components.{specs.{Components.components, Positions.{next_component, part_of}}, proofs.Places.{next_found, next_none}}
 use Rattle.paths.specs.Paths.{Leaf}
 use Rattle.tables.specs.Tables.{file_at, link_at}
 use Rattle.lookup.specs.{Lookup.{find_link, step_into, descend, Place, missing, found_root, found_by, place_in, locate_leaf, locate}, Answers.{found_link, last_step, walk_ends, walked_from}, declared.{FoundLink.TheVariants.{At, Missing}, Walked.Walked}}
@@ -15,13 +15,13 @@ module _ (v : Volume) where
   step_lost none e = refl
   step_lost (some l) e = cc
 
-  pub step-found : (o : Option LinkNo) {l : LinkNo} {next : FileNo} {marked : Bool} {kind : FileType} {b : Bool} → found_link o ≡ At l
+  pub step_found : (o : Option LinkNo) {l : LinkNo} {next : FileNo} {marked : Bool} {kind : FileType} {b : Bool} → found_link o ≡ At l
       → next ≡ (link_at v.links l).file → marked ≡ (file_at v.files next).delete_pending
       → kind ≡ (file_at v.files next).file_type → b ≡ is_directory kind
       → step_into (namespace v) o ≡ cond marked (refuse DeletePending) (cond b (passed next) (refuse ObjectPathNotFound))
   unfolding found_link step_into namespace refuse_if ◌>>◌
-  step-found none e f m g h = cc
-  step-found (some k) {l} {next} {marked} {kind} {b} e f m g h = let q : k ≡ l = cc in rw (q, ← f, ← m, ← g, ← h) (tests marked b)
+  step_found none e f m g h = cc
+  step_found (some k) {l} {next} {marked} {kind} {b} e f m g h = let q : k ≡ l = cc in rw (q, ← f, ← m, ← g, ← h) (tests marked b)
     where
       tests : (marked b : Bool)
           → (do
@@ -57,7 +57,7 @@ module _ (ns : Namespace) (fold : Bool) (dir : FileNo) (name parents : List ℕ)
   walk_left = walked_from ns fold dir (components (drop at parents)) name
 
   pub walk_ends_lem : (next_component parents at).start ≡ (next_component parents at).end → walk_left ≡ last_step dir (found_link (find_link ns fold dir name))
-  walk_ends_lem e = rw (next-none parents at e) (ends ns fold dir name)
+  walk_ends_lem e = rw (next_none parents at e) (ends ns fold dir name)
 
   module _ (more : (next_component parents at).start ≡ (next_component parents at).end → ⊥) where
     abbrev component : List ℕ
@@ -67,10 +67,10 @@ module _ (ns : Namespace) (fold : Bool) (dir : FileNo) (name parents : List ℕ)
     rest = components (drop (next_component parents at).end parents)
 
     pub walk_stops : (s : Status) → step_into ns (find_link ns fold dir component) ≡ refuse s → walk_left ≡ End.Refused s
-    walk_stops s e = rw (next-found parents at more) (stops ns fold dir name component rest s e)
+    walk_stops s e = rw (next_found parents at more) (stops ns fold dir name component rest s e)
 
     pub walk_goes_on : (next : FileNo) → step_into ns (find_link ns fold dir component) ≡ passed next → walk_left ≡ walked_from ns fold next rest name
-    walk_goes_on next e = rw (next-found parents at more) (goes_on ns fold dir name component rest next e)
+    walk_goes_on next e = rw (next_found parents at more) (goes_on ns fold dir name component rest next e)
 
 -- where the walk leads
 

@@ -1,5 +1,5 @@
 -- Keys tell names apart: slots of a table whose keys are distinct have different names, or names in different places.
-use Rattle.base.{specs.Base.{ℕ, ◌≡◌, Bool, true, not, ◌&&◌, List, map, eqb, same, keep, pairs}, proofs.Laws.{ap₂, arith, eqb-true, ne_eqb, not_is, not-false, by_cases, and_left, and_right, same-is}}
+use Rattle.base.{specs.Base.{ℕ, ◌≡◌, Bool, true, not, ◌&&◌, List, map, eqb, same, keep, pairs}, proofs.Laws.{ap₂, arith, eqb-true, ne_eqb, not_is, not-false, by_cases, and_left, and_right, same_is}}
 use Rattle.distinct.{specs.Keys.{is_key, differ}, proofs.Tells.{Tells, told}}
 use Rattle.stored_names.specs.StoredNames.{units}
 use Rattle.name_keys.specs.NameKeys.{name_key}
@@ -29,7 +29,7 @@ module _ {A : Type 0} (used : A → Bool) (number : A → ℕ) (name : A → Lis
       let e = not-false (eqb (number x) (number y) && same (units (name x)) (units (name y))) f in
       rw (u, v)
       (ap₂ name_key (eqb-true (number x) (number y) (and_left (eqb (number x) (number y)) _ e))
-      (same-is (units (name x)) (units (name y)) (and_right (eqb (number x) (number y)) _ e)))
+      (same_is (units (name x)) (units (name y)) (and_right (eqb (number x) (number y)) _ e)))
 
-  pub names-told : (d : A) (xs : List A) → pairs differ (keep is_key (map key_of xs)) ≡ true → pairs names_differ (keep used xs) ≡ true
-  names-told d xs h = told key_of used own_key names_differ names_tell d xs h
+  pub names_told : (d : A) (xs : List A) → pairs differ (keep is_key (map key_of xs)) ≡ true → pairs names_differ (keep used xs) ≡ true
+  names_told d xs h = told key_of used own_key names_differ names_tell d xs h

@@ -1,12 +1,12 @@
 -- The places of a well stored name: each is zero or valid exactly where the units are. And the dots.
-use Rattle.base.{specs.Base.{ℕ, zero, suc, ◌-◌, ◌<◌, ◌≡◌, Bool, true, false, ◌&&◌, List, [], ◌∷◌, eqb, leb, length, get_or, drop, all, same, is_empty, replicate, padded, file_name_limit, stream_name_limit}, proofs.Laws.{refl, sym, ◌∙◌, ap, arith, by_cases, and_left, and_right, same-is, eqb-true, eqb-false, ne_eqb}}
+use Rattle.base.{specs.Base.{ℕ, zero, suc, ◌-◌, ◌<◌, ◌≡◌, Bool, true, false, ◌&&◌, List, [], ◌∷◌, eqb, leb, length, get_or, drop, all, same, is_empty, replicate, padded, file_name_limit, stream_name_limit}, proofs.Laws.{refl, sym, ◌∙◌, ap, arith, by_cases, and_left, and_right, same_is, eqb-true, eqb-false, ne_eqb}}
 use lib.Dec.{eqb-suc-zero}
 use borrow.Author.Tests.{leb-true, leb-false}
 use lib.ListN.{length-append, length-replicate}
 use mathlib.Core.Bool.{and-true, and-false}
 use Rattle.units.specs.Units.{dot}
-use Rattle.names.{specs.{Names.{valid_unit, valid_units, valid_file_name, valid_stream_name}, declared.NameKind.{NameKind, TheVariants.{FileName, StreamName}}}, proofs.ValidNames.{dots, units-long, units-short, file_name_dots, file_name_long, file_name_other}}
-use Rattle.stored_names.{specs.StoredNames.{units, well_stored}, proofs.{NameUnits.{units_end, units-next, units-none}, StoredUnits.{is_zero, well-stored, units-fit, zeros-stored}}}
+use Rattle.names.{specs.{Names.{valid_unit, valid_units, valid_file_name, valid_stream_name}, declared.NameKind.{NameKind, TheVariants.{FileName, StreamName}}}, proofs.ValidNames.{dots, units-long, units_short, file_name_dots, file_name_long, file_name_other}}
+use Rattle.stored_names.{specs.StoredNames.{units, well_stored}, proofs.{NameUnits.{units_end, units_next, units_none}, StoredUnits.{is_zero, well_stored_lem, units_fit, zeros_stored}}}
 use Rattle.name_tests.specs.NameTests.{good_file_name, good_stream_name, fits_stored, zero_or_valid}
 
 -- of a name of either kind
@@ -25,7 +25,7 @@ module _ (k : NameKind) where
   pub stored-valid : (n : List ℕ) → (well_stored (length n) n && all (zero_or_valid k) n) ≡ (well_stored (length n) n && valid_units k (length n) (units n))
   stored-valid n =
       by_cases (well_stored (length n) n)
-      (λ e. rw (e, units-short k (length n) (units n) (units-fit n)) (units_pass n (sym (well-stored n) ∙ e)))
+      (λ e. rw (e, units_short k (length n) (units n) (units_fit n)) (units_pass n (sym (well_stored_lem n) ∙ e)))
       (λ e. rw e)
 
 -- the dots, by the first three places
@@ -40,24 +40,24 @@ module _ (n : List ℕ) where
   unfolding same
   dots_not ne =
       by_cases (eqb (get_or n 0 0) 0) (λ e. rw (units_end n 0 (eqb-true (get_or n 0 0) 0 e)))
-      (λ e. rw (units-next n 0 (eqb-false (get_or n 0 0) 0 e), ne_eqb (get_or n 0 0) dot ne))
+      (λ e. rw (units_next n 0 (eqb-false (get_or n 0 0) 0 e), ne_eqb (get_or n 0 0) dot ne))
 
   module _ (first : get_or n 0 0 ≡ dot) where
-    first-dot : units n ≡ dot ∷ units (drop 1 n)
-    first-dot = units-next n 0 (λ z. let w : ⊥ = omega arith in w) ∙ ap (λ (u : ℕ). u ∷ units (drop 1 n)) first
+    first_dot : units n ≡ dot ∷ units (drop 1 n)
+    first_dot = units_next n 0 (λ z. let w : ⊥ = omega arith in w) ∙ ap (λ (u : ℕ). u ∷ units (drop 1 n)) first
 
-    pub dots-one : get_or n 1 0 ≡ 0 → dots (units n) ≡ true
+    pub dots_one : get_or n 1 0 ≡ 0 → dots (units n) ≡ true
     unfolding same
-    dots-one e = rw (first-dot, units_end n 1 e)
+    dots_one e = rw (first_dot, units_end n 1 e)
 
-    pub dots-two : get_or n 1 0 ≡ dot → dots (units n) ≡ eqb (get_or n 2 0) 0
+    pub dots_two : get_or n 1 0 ≡ dot → dots (units n) ≡ eqb (get_or n 2 0) 0
     unfolding same
-    dots-two e =
-        rw (first-dot, units-next n 1 (λ z. let w : ⊥ = omega arith in w), e) (no_more (units (drop 2 n)) ∙ units-none n 2)
+    dots_two e =
+        rw (first_dot, units_next n 1 (λ z. let w : ⊥ = omega arith in w), e) (no_more (units (drop 2 n)) ∙ units_none n 2)
 
-    pub dots-other : (get_or n 1 0 ≡ 0 → ⊥) → (get_or n 1 0 ≡ dot → ⊥) → dots (units n) ≡ false
+    pub dots_other : (get_or n 1 0 ≡ 0 → ⊥) → (get_or n 1 0 ≡ dot → ⊥) → dots (units n) ≡ false
     unfolding same
-    dots-other some ne = rw (first-dot, units-next n 1 some, ne_eqb (get_or n 1 0) dot ne)
+    dots_other some ne = rw (first_dot, units_next n 1 some, ne_eqb (get_or n 1 0) dot ne)
 
 -- a name of another length is not well stored, or has too many units
 module _ (limit : ℕ) (n : List ℕ) (other : length n ≡ limit → ⊥) where
@@ -65,7 +65,7 @@ module _ (limit : ℕ) (n : List ℕ) (other : length n ≡ limit → ⊥) where
   unfolding well_stored padded
   stored-long h =
       let u = units n in
-      let k = ap length (same-is n (padded limit u) h) ∙ length-append u (replicate (limit - length u) 0) in
+      let k = ap length (same_is n (padded limit u) h) ∙ length-append u (replicate (limit - length u) 0) in
       by_cases (leb (length u) limit)
       (λ e. absurd (other (omega (arith, leb-true (length u) limit e, k, length-replicate {A = ℕ} (limit - length u) 0))))
       (λ e. leb-false (length u) limit e)
@@ -96,7 +96,7 @@ module _ (n : List ℕ) where
     pub good_file_other : (get_or n 0 0 ≡ 0 → ⊥) → dots (units n) ≡ false → (fits_stored n && all (zero_or_valid FileName) n) ≡ good_file_name n
     unfolding good_file_name
     good_file_other some e =
-        rw (good_file_name, file_name_other file_name_limit (units n) (λ z. let w : ⊥ = omega (arith, ap length (units-next n 0 some)) in w) e, long)
+        rw (good_file_name, file_name_other file_name_limit (units n) (λ z. let w : ⊥ = omega (arith, ap length (units_next n 0 some)) in w) e, long)
         (rw long at (stored-valid FileName n))
 
   module _ (long : length n ≡ stream_name_limit) where
@@ -104,7 +104,7 @@ module _ (n : List ℕ) where
     unfolding good_stream_name valid_stream_name valid_units all
     good_stream_empty e =
         rw (good_stream_name, units_end n 0 e, long)
-        (sym (and-true (well_stored stream_name_limit n) ∙ zeros-stored stream_name_limit n e))
+        (sym (and-true (well_stored stream_name_limit n) ∙ zeros_stored stream_name_limit n e))
 
     pub good_stream_other : (fits_stored n && all (zero_or_valid StreamName) n) ≡ good_stream_name n
     unfolding good_stream_name valid_stream_name

@@ -10,42 +10,42 @@ use Rattle.names.specs.{Names.{lowest_unit, valid_unit, valid_units, valid_file_
 abbrev pub dots : List ℕ → Bool
 dots n = same n (dot ∷ []) || same n (dot ∷ dot ∷ [])
 
-pub dots-one : (n : List ℕ) → length n ≡ 1 → eqb (get_or n 0 0) dot ≡ dots n
+pub dots_one : (n : List ℕ) → length n ≡ 1 → eqb (get_or n 0 0) dot ≡ dots n
 unfolding same
-dots-one [] h = absurd (omega arith)
-dots-one (x ∷ []) h = go (eqb x dot)
+dots_one [] h = absurd (omega arith)
+dots_one (x ∷ []) h = go (eqb x dot)
   where
     go : (b : Bool) → b ≡ (b && true || b && false)
     go true = refl
     go false = refl
-dots-one (x ∷ y ∷ n) h = absurd (omega arith)
+dots_one (x ∷ y ∷ n) h = absurd (omega arith)
 
-pub dots-two : (n : List ℕ) → length n ≡ 2 → (eqb (get_or n 0 0) dot && eqb (get_or n 1 0) dot) ≡ dots n
+pub dots_two : (n : List ℕ) → length n ≡ 2 → (eqb (get_or n 0 0) dot && eqb (get_or n 1 0) dot) ≡ dots n
 unfolding same
-dots-two [] h = absurd (omega arith)
-dots-two (x ∷ []) h = absurd (omega arith)
-dots-two (x ∷ y ∷ []) h = go (eqb x dot) (eqb y dot)
+dots_two [] h = absurd (omega arith)
+dots_two (x ∷ []) h = absurd (omega arith)
+dots_two (x ∷ y ∷ []) h = go (eqb x dot) (eqb y dot)
   where
     go : (b d : Bool) → (b && d) ≡ (b && false || b && (d && true))
     go true true = refl
     go true false = refl
     go false true = refl
     go false false = refl
-dots-two (x ∷ y ∷ z ∷ n) h = absurd (omega arith)
+dots_two (x ∷ y ∷ z ∷ n) h = absurd (omega arith)
 
-pub dots-none : (n : List ℕ) → (length n ≡ 1 → ⊥) → (length n ≡ 2 → ⊥) → dots n ≡ false
-dots-none n one two = rw (same-lengths n (dot ∷ []) one, same-lengths n (dot ∷ dot ∷ []) two)
+pub dots_none : (n : List ℕ) → (length n ≡ 1 → ⊥) → (length n ≡ 2 → ⊥) → dots n ≡ false
+dots_none n one two = rw (same-lengths n (dot ∷ []) one, same-lengths n (dot ∷ dot ∷ []) two)
 
 -- no name has a unit 0
 
-zero-invalid : (k : NameKind) → valid_unit k 0 ≡ false
+zero_invalid : (k : NameKind) → valid_unit k 0 ≡ false
 unfolding valid_unit lowest_unit
-zero-invalid FileName = refl
-zero-invalid StreamName = refl
+zero_invalid FileName = refl
+zero_invalid StreamName = refl
 
 pub no_zero : (k : NameKind) (us : List ℕ) → all (valid_unit k) (0 ∷ us) ≡ true → ⊥
 unfolding all
-no_zero k us h = not_both (and_left (valid_unit k 0) (all (valid_unit k) us) h) (zero-invalid k)
+no_zero k us h = not_both (and_left (valid_unit k 0) (all (valid_unit k) us) h) (zero_invalid k)
 
 -- the kinds differ in units 1 to 31 alone: none of those is a sign
 
@@ -56,9 +56,9 @@ no_sign u (s ∷ signs) h below =
     rw (ne_eqb u s (λ e. let z : ⊥ = omega (arith, (leb_iff 0x20 s).0 (and_left (leb 0x20 s) (all (leb 0x20) signs) h)) in z))
     (no_sign u signs (and_right (leb 0x20 s) (all (leb 0x20) signs) h) below)
 
-pub control-units : (u : ℕ) → valid_unit StreamName u ≡ (valid_unit FileName u || (leb 1 u && ltb u 0x20))
+pub control_units : (u : ℕ) → valid_unit StreamName u ≡ (valid_unit FileName u || (leb 1 u && ltb u 0x20))
 unfolding valid_unit lowest_unit all
-control-units u =
+control_units u =
     by_cases (leb 0x20 u)
     (λ e.
     let from = (leb_iff 0x20 u).0 e in
@@ -74,13 +74,13 @@ module _ (k : NameKind) (limit : ℕ) (n : List ℕ) where
   unfolding valid_units
   units-long h = rw (lt-leb (length n) limit h)
 
-  pub units-short : length n ≤ limit → valid_units k limit n ≡ all (valid_unit k) n
+  pub units_short : length n ≤ limit → valid_units k limit n ≡ all (valid_unit k) n
   unfolding valid_units
-  units-short h = rw (le-leb (length n) limit h)
+  units_short h = rw (le-leb (length n) limit h)
 
-  pub valid-fits : valid_units k limit n ≡ true → length n ≤ limit
+  pub valid_fits : valid_units k limit n ≡ true → length n ≤ limit
   unfolding valid_units
-  valid-fits h = (leb_iff (length n) limit).0 (and_left (leb (length n) limit) (all (valid_unit k) n) h)
+  valid_fits h = (leb_iff (length n) limit).0 (and_left (leb (length n) limit) (all (valid_unit k) n) h)
 
   pub valid-each : valid_units k limit n ≡ true → all (valid_unit k) n ≡ true
   unfolding valid_units

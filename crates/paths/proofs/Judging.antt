@@ -39,24 +39,24 @@ parents_in (passed p) = p.parents
 
 -- a last component that was refused by its colons, and one that was not
 
-pub checked-none : (wants_directory : Bool) (parents : List (List ℕ)) (x : Option Leaf) → refuse ObjectNameInvalid ≡ named parents x → refuse ObjectNameInvalid ≡ checked wants_directory parents x
+pub checked_none : (wants_directory : Bool) (parents : List (List ℕ)) (x : Option Leaf) → refuse ObjectNameInvalid ≡ named parents x → refuse ObjectNameInvalid ≡ checked wants_directory parents x
 unfolding named checked checked_leaf ◌>>=◌
-checked-none wants_directory parents none e = refl
-checked-none wants_directory parents (some l) e = cc
+checked_none wants_directory parents none e = refl
+checked_none wants_directory parents (some l) e = cc
 
-pub never-root : (wants_directory : Bool) (parents : List (List ℕ)) (x : Option Leaf) → passed (record { parents = []; leaf = no_leaf }) ≡ named parents x → refuse ObjectNameInvalid ≡ checked wants_directory parents x
+pub never_root : (wants_directory : Bool) (parents : List (List ℕ)) (x : Option Leaf) → passed (record { parents = []; leaf = no_leaf }) ≡ named parents x → refuse ObjectNameInvalid ≡ checked wants_directory parents x
 unfolding named checked checked_leaf valid_file_name is_empty ◌>>=◌
-never-root wants_directory parents none e = refl
-never-root wants_directory parents (some l) e =
+never_root wants_directory parents none e = refl
+never_root wants_directory parents (some l) e =
     rw (← ap leaf_in e, leaf_file_bad wants_directory no_leaf refl)
 
-pub checked-some : (wants_directory : Bool) (parents ps : List (List ℕ)) (x : Option Leaf) (l : Leaf) (b : Bool) → passed (record { parents = ps; leaf = l }) ≡ named parents x → b ≡ valid_leaf wants_directory l → cond b (passed (record { parents = ps; leaf = l })) (refuse ObjectNameInvalid) ≡ checked wants_directory parents x
+pub checked_some : (wants_directory : Bool) (parents ps : List (List ℕ)) (x : Option Leaf) (l : Leaf) (b : Bool) → passed (record { parents = ps; leaf = l }) ≡ named parents x → b ≡ valid_leaf wants_directory l → cond b (passed (record { parents = ps; leaf = l })) (refuse ObjectNameInvalid) ≡ checked wants_directory parents x
 unfolding named checked checked_leaf ◌>>=◌
-checked-some wants_directory parents ps none l b e v = cc
-checked-some wants_directory parents ps (some m) l b e v =
-    let same-leaf : l ≡ m = ap leaf_in e in
-    let same-parents : ps ≡ parents = ap parents_in e in
-    rw (← same-leaf, ← same-parents, ← v) (go b)
+checked_some wants_directory parents ps none l b e v = cc
+checked_some wants_directory parents ps (some m) l b e v =
+    let same_leaf : l ≡ m = ap leaf_in e in
+    let same_parents : ps ≡ parents = ap parents_in e in
+    rw (← same_leaf, ← same_parents, ← v) (go b)
   where
     go : (t : Bool) → cond {A = Checked Path} t (passed (record { parents = ps; leaf = l })) (refuse ObjectNameInvalid) ≡ (cond t (passed l) (refuse ObjectNameInvalid) >>= λ valid. passed (record { parents = ps; leaf = valid }))
     go true = refl
@@ -68,10 +68,10 @@ abbrev pub prefixed : List (List ℕ) → Checked Path → Checked Path
 unfolding ◌>>=◌
 prefixed parents c = c >>= λ p. passed (record { parents = parents ++ p.parents; leaf = p.leaf })
 
-pub prefixed-nil : (c : Checked Path) → prefixed [] c ≡ c
+pub prefixed_nil : (c : Checked Path) → prefixed [] c ≡ c
 unfolding ◌>>=◌
-prefixed-nil (refused s) = refl
-prefixed-nil (passed p) = refl
+prefixed_nil (refused s) = refl
+prefixed_nil (passed p) = refl
 
 pub prefixed_twice : (ps qs : List (List ℕ)) (c : Checked Path) → prefixed ps (prefixed qs c) ≡ prefixed (ps ++ qs) c
 unfolding ◌>>=◌
@@ -79,9 +79,9 @@ prefixed_twice ps qs (refused s) = refl
 prefixed_twice ps qs (passed p) = rw (append_assoc ps qs p.parents)
 
 module _ (wants_directory : Bool) where
-  pub prefixed-last : (ps : List (List ℕ)) (c : List ℕ) → prefixed ps (parse_components wants_directory (c ∷ [])) ≡ checked wants_directory ps (leaf_of (split colon c))
+  pub prefixed_last : (ps : List (List ℕ)) (c : List ℕ) → prefixed ps (parse_components wants_directory (c ∷ [])) ≡ checked wants_directory ps (leaf_of (split colon c))
   unfolding parse_components checked ◌>>=◌
-  prefixed-last ps c = go (checked_leaf wants_directory (leaf_of (split colon c)))
+  prefixed_last ps c = go (checked_leaf wants_directory (leaf_of (split colon c)))
     where
       go : (l : Checked Leaf) → prefixed ps (l >>= λ v. passed (record { parents = []; leaf = v })) ≡ (l >>= λ v. passed (record { parents = ps; leaf = v }))
       go (refused s) = refl

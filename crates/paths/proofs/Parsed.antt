@@ -41,9 +41,9 @@ no_leaf_lem wd =
 
 -- the chain of its parts
 module _ {Q : Refusal → Type 0} (invalid : Q (record { status = ObjectNameInvalid })) (wd : Bool) where
-  leaf-ends : (parts : List (List ℕ)) → Ends Q (LeafFits wd) (checked_leaf wd (leaf_of parts))
+  leaf_ends : (parts : List (List ℕ)) → Ends Q (LeafFits wd) (checked_leaf wd (leaf_of parts))
   unfolding valid_leaf checked_leaf
-  leaf-ends parts = go (leaf_of parts) refl
+  leaf_ends parts = go (leaf_of parts) refl
     where
       fits : (l : Leaf) → leaf_of parts ≡ some l → valid_leaf wd l ≡ true → LeafFits wd l
       fits l e v =
@@ -61,14 +61,14 @@ module _ {Q : Refusal → Type 0} (invalid : Q (record { status = ObjectNameInva
       go none e = stops invalid
       go (some l) e = ends_cond (valid_leaf wd l) (λ v. goes (fits l e v)) (λ v. stops invalid)
 
-  components-ends : (cs : List (List ℕ)) → Ends Q (λ p. LeafFits wd p.leaf) (parse_components wd cs)
+  components_ends : (cs : List (List ℕ)) → Ends Q (λ p. LeafFits wd p.leaf) (parse_components wd cs)
   unfolding parse_components
-  components-ends [] = goes (no_leaf_lem wd)
-  components-ends (c ∷ []) = ends_bind (leaf-ends (split colon c)) (λ l fits. goes fits)
-  components-ends (c ∷ d ∷ ds) =
-      ends_test _ _ invalid (λ valid. ends_bind (components-ends (d ∷ ds)) (λ p fits. goes fits))
+  components_ends [] = goes (no_leaf_lem wd)
+  components_ends (c ∷ []) = ends_bind (leaf_ends (split colon c)) (λ l fits. goes fits)
+  components_ends (c ∷ d ∷ ds) =
+      ends_test _ _ invalid (λ valid. ends_bind (components_ends (d ∷ ds)) (λ p fits. goes fits))
 
   pub parsed_ends : (wf : Bool) (units : List ℕ) → Ends Q (λ p. LeafFits wd p.leaf) (parse_path wd wf units)
   unfolding parse_path
   parsed_ends wf units =
-      ends_test _ _ invalid (λ short. ends_test _ _ invalid (λ last. components-ends (components units)))
+      ends_test _ _ invalid (λ short. ends_test _ _ invalid (λ last. components_ends (components units)))

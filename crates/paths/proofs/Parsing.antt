@@ -1,7 +1,7 @@
 -- Laws of step 4: a component by its colons, and the end of a path.
-use Rattle.base.{specs.Base.{ℕ, suc, ◌-◌, ◌≤◌, ◌<◌, ◌≡◌, Bool, true, false, not, cond, List, [], ◌∷◌, map, Option, none, some, eqb, ltb, length, get_or, drop, all, is_empty}, proofs.Laws.{refl, false≢true, arith, eqb-true, ltb-true, ltb-false, and_left, and_right, same-is}}
+use Rattle.base.{specs.Base.{ℕ, suc, ◌-◌, ◌≤◌, ◌<◌, ◌≡◌, Bool, true, false, not, cond, List, [], ◌∷◌, map, Option, none, some, eqb, ltb, length, get_or, drop, all, is_empty}, proofs.Laws.{refl, false≢true, arith, eqb-true, ltb-true, ltb-false, and_left, and_right, same_is}}
 use lib.Seq.{slice_empty}
-use Rattle.components.{specs.{Components.split, Positions.{leading, no_sign, part_of, parents_of, Within}, declared.Part.Part}, proofs.{Splitting.{split-first, split_one, split-more}, Places.{Searched, up_to, past, split-last, split-found, part-some, first-within}}}
+use Rattle.components.{specs.{Components.split, Positions.{leading, no_sign, part_of, parents_of, Within}, declared.Part.Part}, proofs.{Splitting.{split_first, split_one, split_more}, Places.{Searched, up_to, past, split_last, split_found, part_some, first_within}}}
 use Rattle.units.specs.Units.{colon, data_type, upper, folded, equal_units}
 use Rattle.paths.specs.{Paths.{Leaf, leaf_of, ends_in}, Positions.{as_leaf, as_path, LeafWithin, ParsedParts, named}, declared.{LeafParts.LeafParts, ParsedPath.{ParsedPath, TheVariants.{Invalid, Named}}}}
 
@@ -38,7 +38,7 @@ no_colon_lem (u ∷ us) h = go (eqb u colon) refl (no_colon_lem us)
 
 data_type_lem : (t : List ℕ) → equal_units true t data_type ≡ true → length t ≤ leading (no_sign colon) t
 unfolding equal_units all folded upper
-data_type_lem t e = no_colon_lem t (rw (same-is (map (folded true) t) (map (folded true) data_type) e))
+data_type_lem t e = no_colon_lem t (rw (same_is (map (folded true) t) (map (folded true) data_type) e))
 
 pub leaf_type : (f s t : List ℕ) → leaf_of (f ∷ s ∷ split colon t) ≡ cond (equal_units true t data_type) (some (record { file = f; stream = s; colon = true })) none
 unfolding leaf_of
@@ -52,7 +52,7 @@ leaf_type f s t = go (ltb (leading (no_sign colon) t) (length t)) refl
     longer false e h = refl
 
     go : (b : Bool) → ltb m (length t) ≡ b → leaf_of (f ∷ s ∷ split colon t) ≡ cond (equal_units true t data_type) (some (record { file = f; stream = s; colon = true })) none
-    go true e = rw (split-more colon t (ltb-true m (length t) e), split-first colon (drop (suc m) t)) (longer (equal_units true t data_type) refl (ltb-true m (length t) e))
+    go true e = rw (split_more colon t (ltb-true m (length t) e), split_first colon (drop (suc m) t)) (longer (equal_units true t data_type) refl (ltb-true m (length t) e))
     go false e = rw (split_one colon t (ltb-false m (length t) e))
 
 -- the last component by the colons found; what holds of its places may ask for more
@@ -67,12 +67,12 @@ found inside path parts e within = record { is = rw e; places = within }
 
 module _ {path : List ℕ} {part : Part} {units : List ℕ} {k : ℕ} (searched : Searched colon path part units k) where
   -- without a colon
-  pub leaf-file : length units ≤ k → ParsedParts (Within path part) path (Named (record { file = up_to part k; stream = record { start = k; end = k }; colon = false })) (named (parents_of path part) (leaf_of (split colon (part_of path part))))
+  pub leaf_file : length units ≤ k → ParsedParts (Within path part) path (Named (record { file = up_to part k; stream = record { start = k; end = k }; colon = false })) (named (parents_of path part) (leaf_of (split colon (part_of path part))))
   unfolding leaf_of as_leaf part_of
-  leaf-file h =
-      found (Within path part) path _ (rw (split-last searched h, slice_empty k path))
+  leaf_file h =
+      found (Within path part) path _ (rw (split_last searched h, slice_empty k path))
       (λ within.
-      let file = first-within searched within in
+      let file = first_within searched within in
       record { file = file; stream = record { ordered = omega arith; inside = file.inside } })
 
   -- after the file's name
@@ -87,25 +87,25 @@ module _ {path : List ℕ} {part : Part} {units : List ℕ} {k : ℕ} (searched 
     Stream r = ParsedParts Inside path r (named (parents_of path file) (leaf_of (part_of path file ∷ split colon (part_of path part))))
 
     within : Inside → LeafWithin path stream_of
-    within h = record { file = h.0; stream = first-within searched h.1 }
+    within h = record { file = h.0; stream = first_within searched h.1 }
 
-    pub stream-typed : k < length units → equal_units true (part_of path (past part k)) data_type ≡ true → Stream (Named stream_of)
+    pub stream_typed : k < length units → equal_units true (part_of path (past part k)) data_type ≡ true → Stream (Named stream_of)
     unfolding as_leaf
-    stream-typed h t =
+    stream_typed h t =
         found Inside path stream_of
-        (rw (split-found searched h, leaf_type (part_of path file) (part_of path (up_to part k)) (part_of path (past part k)), t))
+        (rw (split_found searched h, leaf_type (part_of path file) (part_of path (up_to part k)) (part_of path (past part k)), t))
         within
 
     pub stream_untyped : k < length units → equal_units true (part_of path (past part k)) data_type ≡ false → Stream Invalid
     stream_untyped h t =
         refused Inside path (parents_of path file)
-        (rw (split-found searched h, leaf_type (part_of path file) (part_of path (up_to part k)) (part_of path (past part k)), t))
+        (rw (split_found searched h, leaf_type (part_of path file) (part_of path (up_to part k)) (part_of path (past part k)), t))
 
     pub stream_empty : length units ≤ k → part.start ≡ k → Stream Invalid
     unfolding leaf_of is_empty part_of
     stream_empty h same =
-        refused Inside path (parents_of path file) (rw (split-last searched h, same, slice_empty k path))
+        refused Inside path (parents_of path file) (rw (split_last searched h, same, slice_empty k path))
 
     pub stream_only : length units ≤ k → (part.start ≡ k → ⊥) → Stream (Named stream_of)
     unfolding leaf_of as_leaf
-    stream_only h ne = found Inside path stream_of (rw (split-last searched h, part-some searched ne)) within
+    stream_only h ne = found Inside path stream_of (rw (split_last searched h, part_some searched ne)) within

@@ -8,11 +8,11 @@ use Rattle.records.specs.{Checked.{Refusal, Checked, refused, passed, refuse, �
 pub refused≢passed : {A : Type 0} {r : Refusal} {a : A} → Path (Checked A) (refused r) (passed a) → ⊥
 refused≢passed e = let z : ◌≡◌ {A = ℕ} 0 1 = cc in omega arith
 
-pub passed-same : {A : Type 0} {a b : A} → Path (Checked A) (passed a) (passed b) → a ≡ b
-passed-same e = cc
+pub passed_same : {A : Type 0} {a b : A} → Path (Checked A) (passed a) (passed b) → a ≡ b
+passed_same e = cc
 
-pub refused-same : {A : Type 0} {q r : Refusal} → Path (Checked A) (refused q) (refused r) → q ≡ r
-refused-same e = cc
+pub refused_same : {A : Type 0} {q r : Refusal} → Path (Checked A) (refused q) (refused r) → q ≡ r
+refused_same e = cc
 
 module _ {A B : Type 0} where
   -- a chain whose first step is known

@@ -5,7 +5,7 @@ use lib.ListN.{get_or}
 use mathlib.Core.List.{List}
 use mir.Val.{Val}
 use native.Mathlib.Omega.{arith}
-use Rattle.records.proofs.{Arrays.array_element, Lengths.{masks-length, link_name_length, stream_name_length}}
+use Rattle.records.proofs.{Arrays.array_element, Lengths.{masks_length, link_name_length, stream_name_length}}
 use Rattle.records.specs.{Sizes.{accounts, file_name_limit, stream_name_limit}, declared.{File.File, Link.Link, Stream.Stream}}
 use Rattle.records.specs.contracts.File as FileT
 use Rattle.records.specs.contracts.Link as LinkT
@@ -14,7 +14,7 @@ use Rattle.records.specs.contracts.Stream as StreamT
 module _ (f : File) (vs : List Val) (good : Is FileT.the_row f vs) where
   pub mask_fits : (i : ℕ) → i < accounts → get_or f.masks i 0 < 2 ^ 32
   mask_fits i h =
-      let e = masks-length f vs good in
+      let e = masks_length f vs good in
       (array_element u32-field accounts f.masks _ good.1.1.1.1.0 i 0 (omega arith)).1.1
 
 module _ (l : Link) (vs : List Val) (good : Is LinkT.the_row l vs) where

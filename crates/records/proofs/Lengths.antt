@@ -1,5 +1,5 @@
 -- What the type of a record says of its arrays: how long each is. A proof hands over what owning a parameter tells,
--- as `masks-length c.args.f _ c.good.0`.
+-- as `masks_length c.args.f _ c.good.0`.
 use denote.{Laws.Is, Struct.Field.{u16-field, u32-field}}
 use lib.ListN.{length}
 use mathlib.Core.{Path.◌≡◌, List.List}
@@ -11,8 +11,8 @@ use Rattle.records.specs.contracts.Link as LinkT
 use Rattle.records.specs.contracts.Stream as StreamT
 
 module _ (f : File) (vs : List Val) (good : Is FileT.the_row f vs) where
-  pub masks-length : length f.masks ≡ accounts
-  masks-length = array_length u32-field accounts f.masks _ good.1.1.1.1.0
+  pub masks_length : length f.masks ≡ accounts
+  masks_length = array_length u32-field accounts f.masks _ good.1.1.1.1.0
 
 module _ (l : Link) (vs : List Val) (good : Is LinkT.the_row l vs) where
   pub link_name_length : length l.name ≡ file_name_limit

@@ -2,8 +2,8 @@
 use Rattle.base.{specs.Base.{ℕ, suc, ◌≤◌, ◌≡◌, true, List, [], ◌∷◌, ◌++◌, any, ◌+◌, last_handle, Checked, refused, passed, ◌>>=◌, ◌>>◌, seen, status_number, inl, inr, Tables, Step, done, concluded, Reply, Outcome, Success, Done, Refused, Open, Request, FileCorruptError}, proofs.Laws.{refl, sym, ◌∙◌, ap, subst, arith, eqb-false, guarded, not-false, false≢true, Ends, stops, goes, ends_test, leb_iff, and_right}}
 use Rattle.call_contracts.proofs.Decided.{decided}
 use Rattle.image.specs.{Blocks.{image_blocks, image_part}, Image.{blocks_in, whole_blocks, checked_row}}
-use Rattle.store.{specs.{Calls.{Call, opens, closes, sets_read_only, model_step}, Complete.{Decision, decide}, Model.{Model, model_view, model_open, model_opened, model_close, model_closed, model_settled, model_struck, model_set_read_only}, Sequences.{handle_of, is_corrupt}}, proofs.Sequences.{Facts.{NamespaceConsistent, Other, namespace_of}, Related.Related, Steps.{Issues, Together, together, refused-together, when_consistent_lem}}}
-use Rattle.restarts.proofs.{Blocks.{AllFresh, given_fresh}, Read.restored-related}
+use Rattle.store.{specs.{Calls.{Call, opens, closes, sets_read_only, model_step}, Complete.{Decision, decide}, Model.{Model, model_view, model_open, model_opened, model_close, model_closed, model_settled, model_struck, model_set_read_only}, Sequences.{handle_of, is_corrupt}}, proofs.Sequences.{Facts.{NamespaceConsistent, Other, namespace_of}, Related.Related, Steps.{Issues, Together, together, refused_together, when_consistent_lem}}}
+use Rattle.restarts.proofs.{Blocks.{AllFresh, given_fresh}, Read.restored_related}
 use Rattle.restarts.specs.Events.{Event, calls, writes, restarts, restored, store_event, model_event, model_restarted, unless_opened, blocks_given, written_after, succeeds, own_restart}
 
 pub record Kept (t : Tables) (m : Model) (written : List (List ℕ)) : Type 0 where
@@ -22,20 +22,20 @@ module _ {t : Tables} {m : Model} (related : Related t m) (below : suc m.count �
       let last : suc m.count ≡ last_handle → ⊥ = eqb-false _ _ (decided (model_view m) m.namespace r units d ok e).not_last in
       omega arith
 
-  close-below : (c : Checked Open) → suc (concluded m (c >>= (λ o. passed (model_closed m o)))).state.count ≤ last_handle
+  close_below : (c : Checked Open) → suc (concluded m (c >>= (λ o. passed (model_closed m o)))).state.count ≤ last_handle
   unfolding concluded ◌>>=◌ model_closed model_settled model_struck
-  close-below (refused r) = below
-  close-below (passed o) = below
+  close_below (refused r) = below
+  close_below (passed o) = below
 
   call_below : (c : Call) → suc (model_step m c).state.count ≤ last_handle
   unfolding model_step model_open model_close model_set_read_only
   call_below (opens r units) = open_below r units _ refl
-  call_below (closes h) = close-below _
+  call_below (closes h) = close_below _
   call_below (sets_read_only b) = below
 
 -- an accepted open makes the blocks stale, and nothing else changes the count
-none-issued : {k : ℕ} → ◌≡◌ {A = List ℕ} [] (k ∷ []) → ⊥
-none-issued e = let z : ◌≡◌ {A = ℕ} 0 1 = cc in omega arith
+none_issued : {k : ℕ} → ◌≡◌ {A = List ℕ} [] (k ∷ []) → ⊥
+none_issued e = let z : ◌≡◌ {A = ℕ} 0 1 = cc in omega arith
 
 call_fresh : (m : Model) (s : Step Model) (written : List (List ℕ)) → Issues m s → AllFresh m.count written → (o : Outcome)
     → s.reply.outcome ≡ o → AllFresh s.state.count (unless_opened o written)
@@ -43,8 +43,8 @@ unfolding unless_opened handle_of any
 call_fresh m s written issues fresh (Success a h) e = λ b n. absurd (false≢true n)
 call_fresh m s written (inl q) fresh Done e = subst (λ (n : ℕ). AllFresh n written) (sym q.1) fresh
 call_fresh m s written (inl q) fresh (Refused r) e = subst (λ (n : ℕ). AllFresh n written) (sym q.1) fresh
-call_fresh m s written (inr q) fresh Done e = absurd (none-issued (sym (ap (λ (x : Outcome). handle_of x []) e) ∙ q.0 []))
-call_fresh m s written (inr q) fresh (Refused r) e = absurd (none-issued (sym (ap (λ (x : Outcome). handle_of x []) e) ∙ q.0 []))
+call_fresh m s written (inr q) fresh Done e = absurd (none_issued (sym (ap (λ (x : Outcome). handle_of x []) e) ∙ q.0 []))
+call_fresh m s written (inr q) fresh (Refused r) e = absurd (none_issued (sym (ap (λ (x : Outcome). handle_of x []) e) ∙ q.0 []))
 
 -- an event that is answered alike, and keeps this
 abbrev pub Answered : Tables → Model → List (List ℕ) → Event → Type 0
@@ -77,7 +77,7 @@ module _ {t : Tables} {m : Model} {written : List (List ℕ)} (kept : Kept t m w
       let s' = concluded m (c >> passed (done m)) in
       Together m s s' × Kept s.state s'.state (blocks_given t first long s.reply.outcome ++ written)
   unfolding concluded ◌>>◌ blocks_given image_part is_corrupt seen status_number handle_of
-  row_kept (stops {r} q) = (refused-together kept.related r q, kept)
+  row_kept (stops {r} q) = (refused_together kept.related r q, kept)
   row_kept (goes q) = (
     record { same_reply = refl; related_after = kept.related; never_corrupt = refl; issues = inl (λ hs. refl, refl) },
     record {
@@ -108,7 +108,7 @@ module _ {t : Tables} {m : Model} {written : List (List ℕ)} (kept : Kept t m w
   unfolding store_event model_event own_restart succeeds
   restart_kept own =
       restored-kept (restored rows)
-      (λ u e. restored-related m kept.below written kept.fresh rows (guarded (succeeds (restored rows)) _ own (ap succeeds e)) u e)
+      (λ u e. restored_related m kept.below written kept.fresh rows (guarded (succeeds (restored rows)) _ own (ap succeeds e)) u e)
 
 pub restart_count : (m : Model) (rows : List (List ℕ)) → (model_event m (restarts rows)).state.count ≡ m.count
 unfolding model_event model_restarted concluded ◌>>=◌

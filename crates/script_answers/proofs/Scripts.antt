@@ -1,7 +1,7 @@
 -- Every script on lent bytes (specs/Scripts.antt has the statement): the tables that the bytes stand for go through the
 -- lines as the model does.
 use Rattle.base.{specs.Base.{ℕ, ◌≡◌, true, List, [], ◌∷◌, ◌++◌, Option, none, some, seen, Reply, Tables}, proofs.Laws.{refl, ◌∙◌, ap, ap₂}}
-use Rattle.call_contracts.{specs.Sequences.no_call, proofs.Sequences.{agree-related, every_sequence_of_calls}}
+use Rattle.call_contracts.{specs.Sequences.no_call, proofs.Sequences.{agree_related, every_sequence_of_calls}}
 use Rattle.layout.{specs.Layout.{decode, stands_for_tables}, proofs.Calls.on-tables}
 use Rattle.script_lines.specs.{Lines.parse_line, Print.printed, Script.{Answered, performed, answered, script}}
 use Rattle.store.{specs.{Model.Model, Calls.{Call, run, store_step, model_step}}, proofs.Sequences.{Steps.together, Related.Related}}
@@ -50,4 +50,4 @@ pub every_script : EveryScript
 unfolding run
 every_script bytes m masks read_only a left formats done lines text after answers =
     let none = every_sequence_of_calls bytes m masks read_only a left formats done [] [] left no_call in
-    rw none.bytes_stand_for.is at (script_on_tables answers none.bytes_stand_for.stands) ∙ script_alike (agree-related none.agree) lines
+    rw none.bytes_stand_for.is at (script_on_tables answers none.bytes_stand_for.stands) ∙ script_alike (agree_related none.agree) lines

@@ -5,9 +5,9 @@ use Rattle.store.specs.Calls.{Call}
 use Rattle.script_lines.specs.{Lines.{line_limit, parse_line}, Found.as_call, declared.AskedLine.TheVariants.Open}
 
 -- a line that asks something is no longer than the limit
-pub asked-fits : (line : List ℕ) (call : Call) → parse_line line ≡ some call → length line ≤ line_limit
+pub asked_fits : (line : List ℕ) (call : Call) → parse_line line ≡ some call → length line ≤ line_limit
 unfolding parse_line
-asked-fits line call e =
+asked_fits line call e =
     by_cases (leb (length line) line_limit) (λ h. leb-true (length line) line_limit h)
     (λ h. absurd (none≢some (rw h at e)))
 
@@ -16,6 +16,6 @@ pub path_fits : (line : List ℕ) (r : Request) (at : ℕ) → as_call line (Ope
     → take line_limit (drop at line) ≡ drop at line
 unfolding as_call
 path_fits line r at e =
-    let k = asked-fits line _ (sym e) in
+    let k = asked_fits line _ (sym e) in
     let d = length-drop at line in
     take_all line_limit (drop at line) (omega arith)

@@ -21,22 +21,22 @@ tenth : (width n : ℕ) → n < 10 ^ suc width → n / 10 < 10 ^ width
 tenth width n h = (div-lt_iff_lt-mul {k = 10} {x = n} {y = 10 ^ width} (omega arith)).1 (rw pow-suc at h)
 
 -- the lowest digits are the number, where it has no more
-read-digits : (most width n : ℕ) (rest : List ℕ) → n < 10 ^ width → n ≤ most
+read_digits : (most width n : ℕ) (rest : List ℕ) → n < 10 ^ width → n ≤ most
     → digits_from most 0 (digits_onto 10 width n rest) ≡ digits_from most n rest
 unfolding digits_onto digits_from
-read-digits most zero n rest h k = let e : n ≡ 0 = omega arith in rw e
-read-digits most (suc width) n rest h k =
+read_digits most zero n rest h k = let e : n ≡ 0 = omega arith in rw e
+read_digits most (suc width) n rest h k =
     let q = n / 10 in
     let d = n % 10 in
     let e : q * 10 + (0x30 + d - 0x30) ≡ n = omega arith in
-    read-digits most width q (digit d ∷ rest) (tenth width n h) (omega arith)
+    read_digits most width q (digit d ∷ rest) (tenth width n h) (omega arith)
     ∙ rw (byte_digit d (omega arith), byte_is d (omega arith), e, le-leb n most k)
 
 -- the first of them is a digit
-first-digit : (width n : ℕ) (rest : List ℕ) → is_digit (get_or rest 0 0) ≡ true → is_digit (get_or (digits_onto 10 width n rest) 0 0) ≡ true
+first_digit : (width n : ℕ) (rest : List ℕ) → is_digit (get_or rest 0 0) ≡ true → is_digit (get_or (digits_onto 10 width n rest) 0 0) ≡ true
 unfolding digits_onto
-first-digit zero n rest h = h
-first-digit (suc width) n rest h = first-digit width (n / 10) (digit (n % 10) ∷ rest) (byte_digit (n % 10) (omega arith))
+first_digit zero n rest h = h
+first_digit (suc width) n rest h = first_digit width (n / 10) (digit (n % 10) ∷ rest) (byte_digit (n % 10) (omega arith))
 
 -- a number has no more digits than are counted
 width_holds : (more n : ℕ) → n < 10 ^ suc more → n < 10 ^ width_up_to more n
@@ -59,6 +59,6 @@ unfolding number decimal_width digits_from digits_onto
 read_back n h =
     let w = width_some 19 n in
     let f : is_digit (get_or (digits_onto 10 (width_up_to 19 n) n []) 0 0) ≡ true =
-    rw w.1 (first-digit w.0 (n / 10) (digit (n % 10) ∷ []) (byte_digit (n % 10) (omega arith)))
+    rw w.1 (first_digit w.0 (n / 10) (digit (n % 10) ∷ []) (byte_digit (n % 10) (omega arith)))
     in
-    rw f (read-digits most64 (width_up_to 19 n) n [] (width_holds 19 n (omega arith)) h)
+    rw f (read_digits most64 (width_up_to 19 n) n [] (width_holds 19 n (omega arith)) h)

@@ -1,5 +1,5 @@
 -- Reading at a place of a line: one byte more, and where the reading ends.
-use Rattle.base.{specs.Base.{ℕ, ◌+◌, ◌-◌, ◌*◌, ◌≤◌, ◌<◌, ◌≡◌, true, false, List, [], ◌∷◌, none, some, length, get_or, drop, leb, is_empty}, proofs.Laws.{◌∙◌, ap, arith, by_cases, and_left, none≢some, some_injective, eq-eqb, ne_eqb, le-leb, lt-leb, get_or_default, drop-next, drop_of_length-le}}
+use Rattle.base.{specs.Base.{ℕ, ◌+◌, ◌-◌, ◌*◌, ◌≤◌, ◌<◌, ◌≡◌, true, false, List, [], ◌∷◌, none, some, length, get_or, drop, leb, is_empty}, proofs.Laws.{◌∙◌, ap, arith, by_cases, and_left, none≢some, some_injective, eq-eqb, ne_eqb, le-leb, lt-leb, get_or_default, drop_next, drop_of_length-le}}
 use lib.Seq.{get_or-drop, drop-drop}
 use borrow.Author.Tests.{leb-true}
 use Rattle.store.specs.Calls.{closes}
@@ -17,18 +17,18 @@ module _ (most value : ℕ) (line : List ℕ) (at : ℕ) where
   pub digits_stop : at < length line → is_digit (get_or line at 0) ≡ false
       → digits_from most value (drop at line) ≡ some (field_at line value at)
   unfolding digits_from
-  digits_stop h e = rw (drop-next line at 0 h, e)
+  digits_stop h e = rw (drop_next line at 0 h, e)
 
-  pub digits-over : at < length line → is_digit (get_or line at 0) ≡ true
+  pub digits_over : at < length line → is_digit (get_or line at 0) ≡ true
       → leb (value * 10 + (get_or line at 0 - 0x30)) most ≡ false → digits_from most value (drop at line) ≡ none
   unfolding digits_from
-  digits-over h e f = rw (drop-next line at 0 h, e, f)
+  digits_over h e f = rw (drop_next line at 0 h, e, f)
 
-  pub digits-next : at < length line → is_digit (get_or line at 0) ≡ true
+  pub digits_next : at < length line → is_digit (get_or line at 0) ≡ true
       → leb (value * 10 + (get_or line at 0 - 0x30)) most ≡ true
       → digits_from most value (drop at line) ≡ digits_from most (value * 10 + (get_or line at 0 - 0x30)) (drop (at + 1) line)
   unfolding digits_from
-  digits-next h e f = rw (drop-next line at 0 h, e, f)
+  digits_next h e f = rw (drop_next line at 0 h, e, f)
 
 -- a number that is read is at most what is allowed
 digits_most : (most value : ℕ) (bytes : List ℕ) (f : Field) → value ≤ most → digits_from most value bytes ≡ some f
@@ -52,56 +52,56 @@ number_most most bytes f e =
     (λ d. absurd (none≢some (rw d at e)))
 
 -- the first of the bytes from a place on
-pub first-at : (line : List ℕ) (at : ℕ) → get_or (drop at line) 0 0 ≡ get_or line at 0
-first-at line at = get_or-drop at line 0 0 ∙ ap (λ (n : ℕ). get_or line n 0) (let z : at + 0 ≡ at = omega arith in z)
+pub first_at : (line : List ℕ) (at : ℕ) → get_or (drop at line) 0 0 ≡ get_or line at 0
+first_at line at = get_or-drop at line 0 0 ∙ ap (λ (n : ℕ). get_or line n 0) (let z : at + 0 ≡ at = omega arith in z)
 
 module _ (most : ℕ) (line : List ℕ) (at : ℕ) where
   pub number_end : length line ≤ at → number most (drop at line) ≡ none
   unfolding number is_digit
   number_end h = rw (drop_of_length-le line h)
 
-  pub number-other : is_digit (get_or line at 0) ≡ false → number most (drop at line) ≡ none
+  pub number_other : is_digit (get_or line at 0) ≡ false → number most (drop at line) ≡ none
   unfolding number
-  number-other e = rw (first-at line at, e)
+  number_other e = rw (first_at line at, e)
 
   pub number_is : is_digit (get_or line at 0) ≡ true → number most (drop at line) ≡ digits_from most 0 (drop at line)
   unfolding number
-  number_is e = rw (first-at line at, e)
+  number_is e = rw (first_at line at, e)
 
 module _ (line : List ℕ) (at : ℕ) where
-  pub field-none : number most32 (drop at line) ≡ none → field (drop at line) ≡ none
+  pub field_none : number most32 (drop at line) ≡ none → field (drop at line) ≡ none
   unfolding field ◌>>=◌
-  field-none e = rw e
+  field_none e = rw e
 
   module _ (value end : ℕ) (e : number most32 (drop at line) ≡ some (field_at line value end)) where
     pub field_end : length line ≤ end → field (drop at line) ≡ none
     unfolding field ◌>>=◌ spaced
     field_end h = rw (e, drop_of_length-le line h)
 
-    pub field-other : (get_or line end 0 ≡ space → ⊥) → field (drop at line) ≡ none
+    pub field_other : (get_or line end 0 ≡ space → ⊥) → field (drop at line) ≡ none
     unfolding field ◌>>=◌ spaced
-    field-other n = rw (e, first-at line end, ne_eqb (get_or line end 0) space n)
+    field_other n = rw (e, first_at line end, ne_eqb (get_or line end 0) space n)
 
     pub field_is : get_or line end 0 ≡ space → field (drop at line) ≡ some (field_at line value (end + 1))
     unfolding field ◌>>=◌ spaced
-    field_is s = rw (e, first-at line end, eq-eqb (get_or line end 0) space s, drop-drop 1 end line)
+    field_is s = rw (e, first_at line end, eq-eqb (get_or line end 0) space s, drop-drop 1 end line)
 
     pub field_fits : value ≤ most32
     field_fits = number_most most32 (drop at line) (field_at line value end) e
 
 module _ (line : List ℕ) (at : ℕ) where
-  pub close-none : number most64 (drop at line) ≡ none → close_line (drop at line) ≡ none
+  pub close_none : number most64 (drop at line) ≡ none → close_line (drop at line) ≡ none
   unfolding close_line ◌>>=◌
-  close-none e = rw e
+  close_none e = rw e
 
   module _ (value end : ℕ) (e : number most64 (drop at line) ≡ some (field_at line value end)) where
-    pub close-longer : end < length line → close_line (drop at line) ≡ none
+    pub close_longer : end < length line → close_line (drop at line) ≡ none
     unfolding close_line ◌>>=◌ is_empty
-    close-longer h = rw (e, drop-next line end 0 h)
+    close_longer h = rw (e, drop_next line end 0 h)
 
-    pub close-is : length line ≤ end → close_line (drop at line) ≡ some (closes (record { 0 = value }))
+    pub close_is : length line ≤ end → close_line (drop at line) ≡ some (closes (record { 0 = value }))
     unfolding close_line ◌>>=◌ is_empty
-    close-is h = rw (e, drop_of_length-le line h)
+    close_is h = rw (e, drop_of_length-le line h)
 
 -- a line by its first two bytes
 module _ (line : List ℕ) where
@@ -130,6 +130,6 @@ pub command-close : (letter : ℕ) (bytes : List ℕ) → letter ≡ 0x43 → co
 unfolding command
 command-close letter bytes e = rw e
 
-pub command-other : (letter : ℕ) (bytes : List ℕ) → (letter ≡ 0x4F → ⊥) → (letter ≡ 0x43 → ⊥) → command letter bytes ≡ none
+pub command_other : (letter : ℕ) (bytes : List ℕ) → (letter ≡ 0x4F → ⊥) → (letter ≡ 0x43 → ⊥) → command letter bytes ≡ none
 unfolding command
-command-other letter bytes n m = rw (ne_eqb letter 0x4F n, ne_eqb letter 0x43 m)
+command_other letter bytes n m = rw (ne_eqb letter 0x4F n, ne_eqb letter 0x43 m)

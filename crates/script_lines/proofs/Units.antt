@@ -11,9 +11,9 @@ pub record PathCopied (line : List ℕ) (from : ℕ) (units : List ℕ) (at coun
   pub is : take count units ≡ take count (drop from line)
 
 module _ {line : List ℕ} {from : ℕ} {units : List ℕ} {at count : ℕ} (copied : PathCopied line from units at count) where
-  pub units-next : count < line_limit → at < length line
+  pub units_next : count < line_limit → at < length line
       → PathCopied line from (set units count (get_or line at 0)) (at + 1) (count + 1)
-  units-next h b =
+  units_next h b =
       let k = copied.long in
       let r = copied.reached in
       let d = length-drop from line in

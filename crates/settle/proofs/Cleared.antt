@@ -25,11 +25,11 @@ module _ {A : Type 0} (p : A → Bool) (z : A) where
   passed (x ∷ xs) (suc i) d b e = ap (λ (r : List A). x ∷ r) (passed xs i d (omega arith) e)
 
   module _ (xs : List A) (i : ℕ) (d : A) (b : i < length xs) where
-    pub cleared-here : p (get_or xs i d) ≡ true → cleared_from (i + 1) (set xs i z) ≡ cleared_from i xs
-    cleared-here e = rw add-one (done xs i d b e)
+    pub cleared_here : p (get_or xs i d) ≡ true → cleared_from (i + 1) (set xs i z) ≡ cleared_from i xs
+    cleared_here e = rw add-one (done xs i d b e)
 
-    pub cleared-past : p (get_or xs i d) ≡ false → cleared_from (i + 1) xs ≡ cleared_from i xs
-    cleared-past e = rw add-one (passed xs i d b e)
+    pub cleared_past : p (get_or xs i d) ≡ false → cleared_from (i + 1) xs ≡ cleared_from i xs
+    cleared_past e = rw add-one (passed xs i d b e)
 
   -- at the end nothing is left
   pub cleared_end : (xs : List A) (i : ℕ) → length xs ≤ i → cleared_from i xs ≡ xs

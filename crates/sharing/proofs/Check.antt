@@ -1,5 +1,5 @@
 -- The share check from the counts of a list of opens is the comparison of the new open with each of them.
-use Rattle.base.{specs.Base.{ℕ, ◌≡◌, Bool, true, false, not, ◌&&◌, ◌||◌, List, eqb, ltb, any, keep, Permutation, Terms, terms_of, StreamNo, Open}, proofs.Laws.{refl, sym, ◌∙◌, ap, ap₂, and_left, any_same, any_or, any_and, count-some, count_fewer, any-keep, perm_any}}
+use Rattle.base.{specs.Base.{ℕ, ◌≡◌, Bool, true, false, not, ◌&&◌, ◌||◌, List, eqb, ltb, any, keep, Permutation, Terms, terms_of, StreamNo, Open}, proofs.Laws.{refl, sym, ◌∙◌, ap, ap₂, and_left, any_same, any_or, any_and, count_some, count_fewer, any-keep, perm_any}}
 use mathlib.Core.Bool.{and_comm, and-false, or_comm}
 use Rattle.sharing.proofs.{PairRule.any_kind_same, Counts.{opens_of, holders_of, sharers_of}}
 use Rattle.sharing.specs.Sharing.{Kind, reading, writing, deleting, any_kind, holds, shares, counted, conflict, on_stream, any_conflict, is_holder, is_sharer, counts_of_all, counts_of, holders, sharers, share_check}
@@ -23,9 +23,9 @@ module _ (t : Terms) where
   over k o = (holds k t.granted && (counted o.granted && not (is_sharer k o))) || (not (shares k t.share) && is_holder k o)
 
   -- the pair rule, by kinds
-  conflict-over : (o : Open) → conflict (terms_of o) t ≡ (counted t.granted && any_kind (λ k. over k o))
+  conflict_over : (o : Open) → conflict (terms_of o) t ≡ (counted t.granted && any_kind (λ k. over k o))
   unfolding conflict any_kind over is_sharer is_holder
-  conflict-over o = go (counted o.granted) (counted t.granted)
+  conflict_over o = go (counted o.granted) (counted t.granted)
     where
       none : (a b : Bool) → false ≡ ((a && false) || (b && false))
       none a b = rw (and-false a, and-false b)
@@ -47,16 +47,16 @@ module _ (t : Terms) where
       go false false = refl
 
   -- from the counts, kind by kind
-  over-count : (os : List Open) (k : Kind)
+  over_count : (os : List Open) (k : Kind)
       → ((holds k t.granted && ltb (sharers k (counts_of_all os)) (counts_of_all os).opens)
       || (not (shares k t.share) && not (eqb (holders k (counts_of_all os)) 0)))
       ≡ any (over k) os
   unfolding over is_sharer
-  over-count os k =
+  over_count os k =
       ap₂ (λ (a b : Bool). (holds k t.granted && a) || (not (shares k t.share) && b))
       (ap₂ ltb (sharers_of os k) (opens_of os)
       ∙ count_fewer is_counted (is_sharer k) (λ o. and_left (is_counted o) (shares k o.share)) os)
-      (ap (λ (n : ℕ). not (eqb n 0)) (holders_of os k) ∙ count-some (is_holder k) os)
+      (ap (λ (n : ℕ). not (eqb n 0)) (holders_of os k) ∙ count_some (is_holder k) os)
       ∙ sym
       (any_or (λ o. holds k t.granted && (is_counted o && not (is_sharer k o)))
       (λ o. not (shares k t.share) && is_holder k o) os
@@ -70,9 +70,9 @@ module _ (t : Terms) where
       → share_check (counts_of_all os) t ≡ any (λ o. conflict (terms_of o) t) os
   unfolding share_check
   all_check_right os =
-      ap (λ (b : Bool). counted t.granted && b) (any_kind_same _ _ (over-count os) ∙ sym (any_any_kind over os))
+      ap (λ (b : Bool). counted t.granted && b) (any_kind_same _ _ (over_count os) ∙ sym (any_any_kind over os))
       ∙ sym (any_and (counted t.granted) (λ o. any_kind (λ k. over k o)) os)
-      ∙ sym (any_same _ _ conflict-over os)
+      ∙ sym (any_same _ _ conflict_over os)
 
 -- the share check from true counts
 pub share_check_right_lem : (s : StreamNo) (os : List Open) (t : Terms)

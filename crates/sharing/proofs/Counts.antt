@@ -1,5 +1,5 @@
 -- The share counts of a list of opens: in any order, with one open more, with one less, and how large they are.
-use Rattle.base.{specs.Base.{ℕ, ◌+◌, ◌-◌, ◌≤◌, ◌≡◌, Bool, true, false, cond, List, ◌∷◌, length, any, count, keep, Permutation, zero_counts, StreamNo, Open, ShareCounts}, proofs.Laws.{refl, sym, ◌∙◌, ap, arith, count_add, count_bound, keep_yes, keep_no, keep-none, length-keep, perm_keep, perm_count}}
+use Rattle.base.{specs.Base.{ℕ, ◌+◌, ◌-◌, ◌≤◌, ◌≡◌, Bool, true, false, cond, List, ◌∷◌, length, any, count, keep, Permutation, zero_counts, StreamNo, Open, ShareCounts}, proofs.Laws.{refl, sym, ◌∙◌, ap, arith, count_add, count_bound, keep_yes, keep_no, keep_none, length-keep, perm_keep, perm_count}}
 use Rattle.sharing.specs.Sharing.{Kind, reading, writing, deleting, counted, is_holder, is_sharer, on_stream, counts_of_all, counts_of, holders, sharers, changed_by, with_open, without_open}
 
 -- counts are equal where the opens are, and each kind's holders and sharers
@@ -35,9 +35,9 @@ module _ (os : List Open) where
   sharers_of deleting = refl
 
 module _ (◌⊕◌ : ℕ → ℕ → ℕ) (o : Open) (c : ShareCounts) where
-  pub opens-changed : (changed_by ◌⊕◌ o c).opens ≡ (◌⊕◌ c.opens (cond (counted o.granted) 1 0))
+  pub opens_changed : (changed_by ◌⊕◌ o c).opens ≡ (◌⊕◌ c.opens (cond (counted o.granted) 1 0))
   unfolding changed_by
-  opens-changed = refl
+  opens_changed = refl
 
   pub holders-changed : (k : Kind) → holders k (changed_by ◌⊕◌ o c) ≡ (◌⊕◌ (holders k c) (cond (is_holder k o) 1 0))
   unfolding holders changed_by
@@ -67,7 +67,7 @@ pub all_counts_cons : (o : Open) (os : List Open) → counts_of_all (o ∷ os) �
 unfolding with_open
 all_counts_cons o os =
     same-counts (counts_of_all (o ∷ os)) (changed_by ◌+◌ o c)
-    (opens_of (o ∷ os) ∙ more (λ p. counted p.granted) (opens_of os) ∙ sym (opens-changed ◌+◌ o c))
+    (opens_of (o ∷ os) ∙ more (λ p. counted p.granted) (opens_of os) ∙ sym (opens_changed ◌+◌ o c))
     (λ k. holders_of (o ∷ os) k ∙ more (is_holder k) (holders_of os k) ∙ sym (holders-changed ◌+◌ o c k))
     (λ k. sharers_of (o ∷ os) k ∙ more (is_sharer k) (sharers_of os k) ∙ sym (sharers-changed ◌+◌ o c k))
   where
@@ -82,21 +82,21 @@ pub counts_cons : (s : StreamNo) (o : Open) (os : List Open) → on_stream s o �
 unfolding counts_of
 counts_cons s o os e = ap counts_of_all (keep_yes (on_stream s) o os e) ∙ all_counts_cons o (keep (on_stream s) os)
 
-pub counts-skip : (s : StreamNo) (o : Open) (os : List Open) → on_stream s o ≡ false → counts_of s (o ∷ os) ≡ counts_of s os
+pub counts_skip : (s : StreamNo) (o : Open) (os : List Open) → on_stream s o ≡ false → counts_of s (o ∷ os) ≡ counts_of s os
 unfolding counts_of
-counts-skip s o os e = ap counts_of_all (keep_no (on_stream s) o os e)
+counts_skip s o os e = ap counts_of_all (keep_no (on_stream s) o os e)
 
 -- no open on the stream
-pub counts-none : (s : StreamNo) (os : List Open) → any (on_stream s) os ≡ false → counts_of s os ≡ zero_counts
+pub counts_none : (s : StreamNo) (os : List Open) → any (on_stream s) os ≡ false → counts_of s os ≡ zero_counts
 unfolding counts_of counts_of_all count
-counts-none s os h = ap counts_of_all (keep-none (on_stream s) os h)
+counts_none s os h = ap counts_of_all (keep_none (on_stream s) os h)
 
 -- one open less: what was added goes
 pub added_removed : (o : Open) (c : ShareCounts) → without_open o (with_open o c) ≡ c
 unfolding with_open without_open
 added_removed o c =
     same-counts (changed_by ◌-◌ o (changed_by ◌+◌ o c)) c
-    (omega (arith, opens-changed ◌-◌ o (changed_by ◌+◌ o c), opens-changed ◌+◌ o c))
+    (omega (arith, opens_changed ◌-◌ o (changed_by ◌+◌ o c), opens_changed ◌+◌ o c))
     (λ k. omega (arith, holders-changed ◌-◌ o (changed_by ◌+◌ o c) k, holders-changed ◌+◌ o c k))
     (λ k. omega (arith, sharers-changed ◌-◌ o (changed_by ◌+◌ o c) k, sharers-changed ◌+◌ o c k))
 
@@ -106,10 +106,10 @@ counts_less s o os e = ap (without_open o) (counts_cons s o os e) ∙ added_remo
 
 -- an uncounted open changes nothing
 module _ (◌⊕◌ : ℕ → ℕ → ℕ) (same : (n : ℕ) → (◌⊕◌ n 0) ≡ n) where
-  none-changed : (o : Open) (c : ShareCounts) → counted o.granted ≡ false → changed_by ◌⊕◌ o c ≡ c
+  none_changed : (o : Open) (c : ShareCounts) → counted o.granted ≡ false → changed_by ◌⊕◌ o c ≡ c
   unfolding is_holder is_sharer
-  none-changed o c e =
-      same-counts (changed_by ◌⊕◌ o c) c (opens-changed ◌⊕◌ o c ∙ rw e (same c.opens))
+  none_changed o c e =
+      same-counts (changed_by ◌⊕◌ o c) c (opens_changed ◌⊕◌ o c ∙ rw e (same c.opens))
       (λ k. holders-changed ◌⊕◌ o c k ∙ rw e (same (holders k c)))
       (λ k. sharers-changed ◌⊕◌ o c k ∙ rw e (same (sharers k c)))
 
@@ -117,7 +117,7 @@ pub uncounted_nothing : (o : Open) (c : ShareCounts) → counted o.granted ≡ f
     → (with_open o c ≡ c) × (without_open o c ≡ c)
 unfolding with_open without_open
 uncounted_nothing o c e =
-    (none-changed ◌+◌ (λ n. omega arith) o c e, none-changed ◌-◌ (λ n. omega arith) o c e)
+    (none_changed ◌+◌ (λ n. omega arith) o c e, none_changed ◌-◌ (λ n. omega arith) o c e)
 
 -- each of the seven counts is at most n
 pub record AtMost (n : ℕ) (c : ShareCounts) : Type 0 where

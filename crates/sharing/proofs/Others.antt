@@ -14,13 +14,13 @@ uncounted_passes c o e = ((uncounted_nothing o c e).1, rw e)
 -- one of a list of opens, and the rest
 module _ {os : List Open} {o : Open} {rest : List Open} (one : Permutation os (o ∷ rest)) where
   -- the counts less its own part are those of the rest
-  pub others-counts : without_open o (counts_of_all os) ≡ counts_of_all rest
-  others-counts = ap (without_open o) (all_counts_perm one ∙ all_counts_cons o rest) ∙ added_removed o (counts_of_all rest)
+  pub others_counts : without_open o (counts_of_all os) ≡ counts_of_all rest
+  others_counts = ap (without_open o) (all_counts_perm one ∙ all_counts_cons o rest) ∙ added_removed o (counts_of_all rest)
 
   -- it fails exactly when one of the rest conflicts with it
   all_others_check : others_check (counts_of_all os) o ≡ any (λ q. conflict (terms_of q) (terms_of o)) rest
   unfolding others_check
-  all_others_check = ap (λ (c : ShareCounts). share_check c (terms_of o)) others-counts ∙ all_check_right (terms_of o) rest
+  all_others_check = ap (λ (c : ShareCounts). share_check c (terms_of o)) others_counts ∙ all_check_right (terms_of o) rest
 
 -- among the opens on a stream
 pub others_check_one : (s : StreamNo) {os : List Open} {o : Open} {rest : List Open} → Permutation os (o ∷ rest)
@@ -34,9 +34,9 @@ others_check_one s {os} {o} {rest} one on =
 abbrev pub agree : Open → Open → Bool
 agree o q = not (conflicting o q)
 
-agree-all : (o : Open) (os : List Open) → all (agree o) os ≡ not (any (λ q. conflict (terms_of q) (terms_of o)) os)
+agree_all : (o : Open) (os : List Open) → all (agree o) os ≡ not (any (λ q. conflict (terms_of q) (terms_of o)) os)
 unfolding conflicting
-agree-all o os = all_not (conflicting o) os ∙ ap not (any_same _ _ (λ q. conflict_sym (terms_of o) (terms_of q)) os)
+agree_all o os = all_not (conflicting o) os ∙ ap not (any_same _ _ (λ q. conflict_sym (terms_of o) (terms_of q)) os)
 
 -- where the counts of a stream are true, one of the opens on it fails exactly when two of them conflict
 pub others_check_right : (s : StreamNo) (os : List Open) (c : ShareCounts) → c ≡ counts_of s os
@@ -48,7 +48,7 @@ others_check_right s os c counts-true =
     (sym (all_not (others_check c) on)
     ∙ all_others agree (λ o q. ap not (conflicting_sym o q)) (λ o. not (others_check c o)) on
     (λ o rest one.
-    ap not (ap (λ (d : ShareCounts). others_check d o) counts-true ∙ all_others_check one) ∙ sym (agree-all o rest)))
+    ap not (ap (λ (d : ShareCounts). others_check d o) counts-true ∙ all_others_check one) ∙ sym (agree_all o rest)))
   where
     on : List Open
     on = keep (on_stream s) os

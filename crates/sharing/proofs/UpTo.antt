@@ -1,6 +1,6 @@
 -- Adding an open in fields that end at a limit is adding it, where the counts are below the limit.
 use Rattle.base.{specs.Base.{ℕ, ◌+◌, ◌≤◌, ◌<◌, ◌≡◌, Bool, true, false, cond, List, length, StreamNo, Open, ShareCounts}, proofs.Laws.arith}
-use Rattle.sharing.proofs.Counts.{AtMost, same-counts, opens-changed, holders-changed, sharers-changed, counts_bound}
+use Rattle.sharing.proofs.Counts.{AtMost, same-counts, opens_changed, holders-changed, sharers-changed, counts_bound}
 use Rattle.sharing.specs.{Sharing.{counted, is_holder, is_sharer, holders, sharers, counts_of, changed_by, with_open}, Saturating.{plus_up_to, with_open_up_to}}
 
 -- one more than a number below the limit
@@ -14,7 +14,7 @@ module _ (limit n : ℕ) (below : n < limit) where
   unfolding with_open_up_to with_open
   up_to_same o c h =
       same-counts (changed_by (plus_up_to limit) o c) (changed_by ◌+◌ o c)
-      (rw (opens-changed (plus_up_to limit) o c, opens-changed ◌+◌ o c)
+      (rw (opens_changed (plus_up_to limit) o c, opens_changed ◌+◌ o c)
       (plus_below limit c.opens (omega (arith, h.opens)) (counted o.granted)))
       (λ k.
       rw (holders-changed (plus_up_to limit) o c k, holders-changed ◌+◌ o c k)

@@ -13,11 +13,11 @@ abbrev Accepts : {S : Type 0} → Step S → Type 0
 Accepts s = (q : Status) → s.reply.outcome ≡ Refused q → ⊥
 
 -- a refusal leaves the state as it was
-concluded-unchanged : {S : Type 0} (s : S) (c : Checked (Step S)) → Ends (λ r. Unit {0}) Accepts c → (q : Status)
+concluded_unchanged : {S : Type 0} (s : S) (c : Checked (Step S)) → Ends (λ r. Unit {0}) Accepts c → (q : Status)
     → (concluded s c).reply.outcome ≡ Refused q → (concluded s c).state ≡ s
 unfolding concluded
-concluded-unchanged s (refused r) h q e = refl
-concluded-unchanged s (passed next) h q e = absurd (went h q e)
+concluded_unchanged s (refused r) h q e = refl
+concluded_unchanged s (passed next) h q e = absurd (went h q e)
 
 -- steps that pass or refuse, and then make a step that is none
 made : {A S : Type 0} (c : Checked A) (f : A → Step S) → ((a : A) → Accepts (f a)) → Ends (λ r. Unit {0}) Accepts (c >>= (λ a. passed (f a)))
@@ -28,24 +28,24 @@ made (passed a) f h = goes (h a)
 when_unchanged : (t : Tables) (c : Checked (Step Tables)) → Ends (λ r. Unit {0}) Accepts c → (q : Status)
     → (when_consistent t c).reply.outcome ≡ Refused q → (when_consistent t c).state ≡ t
 unfolding when_consistent
-when_unchanged t c h = concluded-unchanged t _ (ends_test _ FileCorruptError tt (λ e. h))
+when_unchanged t c h = concluded_unchanged t _ (ends_test _ FileCorruptError tt (λ e. h))
 
 not_refused : {a : Outcome} {q : Status} → (a ≡ Done) ⊎ ((x : CreateAction) × (h : Handle) × (a ≡ Success x h)) → a ≡ Refused q → ⊥
 not_refused (inl d) e = let z : ◌≡◌ {A = ℕ} 0 1 = cc in omega arith
 not_refused (inr s) e = let w = s.2 in let z : ◌≡◌ {A = ℕ} 0 1 = cc in omega arith
 
 -- a refused call changes nothing, whatever the tables hold
-pub refused-unchanged : (t : Tables) (c : Call) (s : Status) → (store_step t c).reply.outcome ≡ Refused s → (store_step t c).state ≡ t
+pub refused_unchanged : (t : Tables) (c : Call) (s : Status) → (store_step t c).reply.outcome ≡ Refused s → (store_step t c).state ≡ t
 unfolding store_step store_open store_close store_set_read_only opened closed
-refused-unchanged t (opens r units) = when_unchanged t _ (made _ (opened t) (λ d q. not_refused (inr (d.action, d.handle, refl))))
-refused-unchanged t (closes h) = when_unchanged t _ (made _ (closed t) (λ c q. not_refused (inl refl)))
-refused-unchanged t (sets_read_only b) = when_unchanged t _ (goes (λ q. not_refused (inl refl)))
+refused_unchanged t (opens r units) = when_unchanged t _ (made _ (opened t) (λ d q. not_refused (inr (d.action, d.handle, refl))))
+refused_unchanged t (closes h) = when_unchanged t _ (made _ (closed t) (λ c q. not_refused (inl refl)))
+refused_unchanged t (sets_read_only b) = when_unchanged t _ (goes (λ q. not_refused (inl refl)))
 
-pub refused-format : (t : Tables) (masks : List ℕ) (read_only : Bool) (s : Status)
+pub refused_format : (t : Tables) (masks : List ℕ) (read_only : Bool) (s : Status)
     → (format t masks read_only).reply.outcome ≡ Refused s → (format t masks read_only).state ≡ t
 unfolding format checked_masks
-refused-format t masks read_only =
-    concluded-unchanged t _
+refused_format t masks read_only =
+    concluded_unchanged t _
     (ends_test _ FileCorruptError tt (λ e. ends_test _ InvalidParameter tt (λ f. goes (λ q. not_refused (inl refl)))))
 
 -- consistent tables as a model: their live opens are its entries

@@ -18,13 +18,13 @@ pub path_cases_lem : Hold path_cases
 unfolding expected failing
 path_cases_lem = refl
 
-pub name-cases : Hold name_cases
+pub name_cases_lem : Hold name_cases
 unfolding expected failing
-name-cases = refl
+name_cases_lem = refl
 
-pub control-cases : Hold control_cases
+pub control_cases_lem : Hold control_cases
 unfolding expected failing
-control-cases = refl
+control_cases_lem = refl
 
 pub names_alone_lem : NamesAloneHold
 unfolding expected names_alone
@@ -46,9 +46,9 @@ pub new_file_cases_lem : Hold new_file_cases
 unfolding expected failing
 new_file_cases_lem = refl
 
-pub parent-cases : Hold parent_cases
+pub parent_cases_lem : Hold parent_cases
 unfolding expected failing
-parent-cases = refl
+parent_cases_lem = refl
 
 pub directory-cases : Hold directory_cases
 unfolding expected failing
@@ -58,17 +58,17 @@ pub share_read_cases_lem : Hold share_read_cases
 unfolding expected failing
 share_read_cases_lem = refl
 
-pub found-cases : Hold found_cases
+pub found_cases_lem : Hold found_cases
 unfolding expected failing
-found-cases = refl
+found_cases_lem = refl
 
 pub gained-cases : Hold gained_cases
 unfolding expected failing
 gained-cases = refl
 
-pub missing-cases : Hold missing_cases
+pub missing_cases_lem : Hold missing_cases
 unfolding expected failing
-missing-cases = refl
+missing_cases_lem = refl
 
 pub resource_cases_lem : Hold resource_cases
 unfolding expected failing tables
@@ -78,17 +78,17 @@ pub slot_cases_lem : Hold slot_cases
 unfolding expected failing sparse
 slot_cases_lem = refl
 
-pub access-cases : Hold access_cases
+pub access_cases_lem : Hold access_cases
 unfolding expected failing
-access-cases = refl
+access_cases_lem = refl
 
-pub sharing-cases : Hold sharing_cases
+pub sharing_cases_lem : Hold sharing_cases
 unfolding expected failing
-sharing-cases = refl
+sharing_cases_lem = refl
 
-pub share-cases : SharesHold share_cases
+pub share_cases_lem : SharesHold share_cases
 unfolding expected_shares failing
-share-cases = refl
+share_cases_lem = refl
 
 pub call_cases_lem : Hold call_cases
 unfolding expected failing

@@ -2,7 +2,7 @@
 -- them are zero exactly where the name is well stored.
 use Rattle.base.{specs.Base.{ℕ, zero, suc, ◌-◌, ◌≤◌, ◌≡◌, Bool, ◌&&◌, List, [], ◌∷◌, ◌++◌, eqb, length, get_or, drop, replicate, all, same, is_empty, padded}, proofs.Laws.{refl, sym, ap, ◌∙◌, arith, same-append}}
 use lib.ListN.{length-append}
-use Rattle.stored_names.proofs.NameUnits.{units_end, units-none}
+use Rattle.stored_names.proofs.NameUnits.{units_end, units_none}
 use Rattle.stored_names.specs.StoredNames.{units, well_stored}
 
 -- a name is its units and what follows them
@@ -13,12 +13,12 @@ units_prefix (zero ∷ us) = refl
 units_prefix (suc u ∷ us) = ap (λ (l : List ℕ). suc u ∷ l) (units_prefix us)
 
 module _ (n : List ℕ) where
-  pub units-fit : length (units n) ≤ length n
-  units-fit = omega (arith, length-append (units n) (drop (length (units n)) n), ap length (units_prefix n))
+  pub units_fit : length (units n) ≤ length n
+  units_fit = omega (arith, length-append (units n) (drop (length (units n)) n), ap length (units_prefix n))
 
 -- the empty name
 pub units_empty : (n : List ℕ) → is_empty (units n) ≡ eqb (get_or n 0 0) 0
-units_empty n = units-none n 0
+units_empty n = units_none n 0
 
 abbrev pub is_zero : ℕ → Bool
 is_zero u = eqb u 0
@@ -29,9 +29,9 @@ zeros [] = refl
 zeros (x ∷ xs) = ap (λ (b : Bool). eqb x 0 && b) (zeros xs)
 
 -- a name is well stored when its places after its units are zero
-pub well-stored : (n : List ℕ) → well_stored (length n) n ≡ all is_zero (drop (length (units n)) n)
+pub well_stored_lem : (n : List ℕ) → well_stored (length n) n ≡ all is_zero (drop (length (units n)) n)
 unfolding well_stored padded
-well-stored n =
+well_stored_lem n =
     let u = units n in
     let t = drop (length u) n in
     let split : u ++ t ≡ n = units_prefix n in
@@ -42,6 +42,6 @@ well-stored n =
     ∙ zeros t
 
 -- a name is all zero exactly where it is empty and well stored
-pub zeros-stored : (limit : ℕ) (n : List ℕ) → get_or n 0 0 ≡ 0 → well_stored limit n ≡ same n (replicate limit 0)
+pub zeros_stored : (limit : ℕ) (n : List ℕ) → get_or n 0 0 ≡ 0 → well_stored limit n ≡ same n (replicate limit 0)
 unfolding well_stored padded
-zeros-stored limit n e = rw (well_stored, units_end n 0 e, padded) (ap (λ (k : ℕ). same n (replicate k 0)) (let z : limit - 0 ≡ limit = omega arith in z))
+zeros_stored limit n e = rw (well_stored, units_end n 0 e, padded) (ap (λ (k : ℕ). same n (replicate k 0)) (let z : limit - 0 ≡ limit = omega arith in z))

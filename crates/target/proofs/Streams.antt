@@ -7,7 +7,7 @@ unfolding found_stream
 stream_at none e = cc
 stream_at (some t) e = cc
 
-pub stream-missing : (o : Option StreamNo) → found_stream o ≡ Missing → o ≡ none
+pub stream_missing : (o : Option StreamNo) → found_stream o ≡ Missing → o ≡ none
 unfolding found_stream
-stream-missing none e = refl
-stream-missing (some t) e = cc
+stream_missing none e = refl
+stream_missing (some t) e = cc

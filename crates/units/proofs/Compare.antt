@@ -1,5 +1,5 @@
 -- Laws of equal_units, for loops that compare unit by unit.
-use Rattle.base.{specs.Base.{ℕ, ◌+◌, ◌≤◌, ◌<◌, ◌≡◌, Bool, true, false, List, ◌∷◌, map, length, get_or, drop, same}, proofs.Laws.{sym, ap, ◌∙◌, drop_of_length-le, length-map, drop-next, same_self, same_tail, same_differs, same-lengths}}
+use Rattle.base.{specs.Base.{ℕ, ◌+◌, ◌≤◌, ◌<◌, ◌≡◌, Bool, true, false, List, ◌∷◌, map, length, get_or, drop, same}, proofs.Laws.{sym, ap, ◌∙◌, drop_of_length-le, length-map, drop_next, same_self, same_tail, same_differs, same-lengths}}
 use Rattle.units.specs.Units.{folded, equal_units}
 
 module _ (fold : Bool) where
@@ -19,10 +19,10 @@ module _ (fold : Bool) where
 
 module _ (fold : Bool) (a b : List ℕ) (i : ℕ) where
   pub equal_next : i < length a → i < length b → folded fold (get_or a i 0) ≡ folded fold (get_or b i 0) → equal_units fold (drop i a) (drop i b) ≡ equal_units fold (drop (i + 1) a) (drop (i + 1) b)
-  equal_next ha hb e = rw (drop-next a i 0 ha, drop-next b i 0 hb) (equal_tail fold (get_or a i 0) (get_or b i 0) (drop (i + 1) a) (drop (i + 1) b) e)
+  equal_next ha hb e = rw (drop_next a i 0 ha, drop_next b i 0 hb) (equal_tail fold (get_or a i 0) (get_or b i 0) (drop (i + 1) a) (drop (i + 1) b) e)
 
-  pub equal-stops : i < length a → i < length b → (folded fold (get_or a i 0) ≡ folded fold (get_or b i 0) → ⊥) → equal_units fold (drop i a) (drop i b) ≡ false
-  equal-stops ha hb ne = rw (drop-next a i 0 ha, drop-next b i 0 hb) (equal_differs fold (get_or a i 0) (get_or b i 0) (drop (i + 1) a) (drop (i + 1) b) ne)
+  pub equal_stops : i < length a → i < length b → (folded fold (get_or a i 0) ≡ folded fold (get_or b i 0) → ⊥) → equal_units fold (drop i a) (drop i b) ≡ false
+  equal_stops ha hb ne = rw (drop_next a i 0 ha, drop_next b i 0 hb) (equal_differs fold (get_or a i 0) (get_or b i 0) (drop (i + 1) a) (drop (i + 1) b) ne)
 
   pub equal_end : length a ≤ i → length b ≤ i → equal_units fold (drop i a) (drop i b) ≡ true
   unfolding equal_units same

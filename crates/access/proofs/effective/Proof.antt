@@ -10,7 +10,7 @@ returns c =
     let h = c.before.before in
     let d = h.before.before in
     rw (
-      ← d.is-data.ensures,
+      ← d.is_data_lem.ensures,
       h.before.if1.true,
       ← h.has.ensures,
       c.before.if2.true,
@@ -22,8 +22,8 @@ unfolding effective
 returns-2 c =
     let d = c.before in
     ⊎_elim
-    (λ w. rw (← d.is-data.ensures, w.0.taken, ← w.1.ensures, w.2.left) d.before.mask-of.ensures)
-    (λ w. rw (← d.is-data.ensures, w.left) d.before.mask-of.ensures) c.if1.branch
+    (λ w. rw (← d.is_data_lem.ensures, w.0.taken, ← w.1.ensures, w.2.left) d.before.mask-of.ensures)
+    (λ w. rw (← d.is_data_lem.ensures, w.left) d.before.mask-of.ensures) c.if1.branch
 
 pub effective_spec : {M : Type 1} → statement M
 effective_spec =

@@ -1,7 +1,7 @@
 -- `access::mask_of` meets its contract: an account past the last is past the masks' end, where the definition
 -- says 0.
 use Rattle.base.{proofs.Laws.{refl, sym, arith, get_or_default, needs}, specs.Base.mask_of}
-use Rattle.records.proofs.Lengths.{masks-length}
+use Rattle.records.proofs.Lengths.{masks_length}
 use Rattle.access.proofs.mask_of.Statement.{statement}
 use Rattle.access.proofs.mask_of.Tie as tie
 
@@ -13,7 +13,7 @@ returns-2 : tie.Need-returns-2
 unfolding mask_of
 returns-2 c =
     let f = c.before.args.t1 in
-    let h = masks-length f _ c.before.well-formed.0 in
+    let h = masks_length f _ c.before.well_formed_lem.0 in
     sym (get_or_default f.masks 0 (omega arith))
 
 pub mask_of_spec : {M : Type 1} → statement M

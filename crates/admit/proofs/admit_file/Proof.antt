@@ -66,8 +66,8 @@ returns-4 c path =
       n.before.if3.false,
       ← i.before.before.before.before.read-file.ensures,
       ← n.new-type.ensures,
-      ← c.before.attributes-new.ensures,
-      ← c.granted-new.ensures,
+      ← c.before.attributes_new_lem.ensures,
+      ← c.granted_new_lem.ensures,
     )
 
 pub admit_file_spec : {M : Type 1} → statement M

@@ -2,7 +2,7 @@
 use Rattle.base.{specs.Base.file_name_limit, proofs.Laws.needs}
 use Rattle.store.specs.Complete.{link_new}
 use Rattle.components.specs.Positions.{part_of}
-use Rattle.stored_names.proofs.Padded.{places-all}
+use Rattle.stored_names.proofs.Padded.{places_all}
 use Rattle.apply.proofs.write_link_added.Statement.{statement}
 use Rattle.apply.proofs.write_link_added.Tie as tie
 
@@ -19,7 +19,7 @@ returns c =
           rw (
             name.stored-name.ensures,
             part.part_of_lem.ensures,
-            places-all file_name_limit (part_of a.path.now a.f.leaf.file) room,
+            places_all file_name_limit (part_of a.path.now a.f.leaf.file) room,
           )
           at write.write-link.ensures;
     }

@@ -1,7 +1,7 @@
 -- `apply::write_new_stream` meets its contract: a name with room is stored whole, and the counts are those that were read.
 use Rattle.base.{specs.Base.{stream_name_limit, with_counts}, proofs.Laws.needs}
 use Rattle.store.specs.Complete.{stream_new}
-use Rattle.stored_names.proofs.Padded.{places-all}
+use Rattle.stored_names.proofs.Padded.{places_all}
 use Rattle.apply.proofs.write_new_stream.Statement.{statement}
 use Rattle.apply.proofs.write_new_stream.Tie as tie
 
@@ -16,7 +16,7 @@ returns c =
       changed = λ room.
           rw (
             name.stored-name.ensures,
-            places-all stream_name_limit name.before.before.before.args.name.now room,
+            places_all stream_name_limit name.before.before.before.args.name.now room,
             counts.read-counts.ensures,
           )
           at write.write-stream.ensures;

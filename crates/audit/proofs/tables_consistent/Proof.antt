@@ -1,7 +1,7 @@
 -- `audit::tables_consistent` meets its contract: the tests are the parts of the whole. The walk over the opens is the test of
 -- conflicts, as it comes after the counts.
 use Rattle.base.{specs.Base.{ℕ, ◌≡◌, Bool, true, false, not, ◌&&◌, List, namespace}, proofs.Laws.{sym, ◌∙◌, and_left, and_right, not-true, not-false, needs}}
-use Rattle.audit_conflicts.{specs.Others.others_test, proofs.Others.others-decide}
+use Rattle.audit_conflicts.{specs.Others.others_test, proofs.Others.others_decide}
 use Rattle.consistency.specs.Test.{consistent, opens_test, counts_test, conflicts_test}
 use Rattle.layout.specs.Layout.{decode}
 use Rattle.audit.proofs.tables_consistent.Statement.{statement}
@@ -27,7 +27,7 @@ module _ (b : List ℕ) where
       → found ≡ others_test (decode b).volume.streams (decode b).opens.rows → found ≡ conflicts_test (decode b).opens.rows
   unfolding namespace
   no_conflict_lem e f =
-      f ∙ others-decide _ _ _ (and_left good_opens true_counts e) (and_right good_opens true_counts e)
+      f ∙ others_decide _ _ _ (and_left good_opens true_counts e) (and_right good_opens true_counts e)
 
 returns : tie.Need-returns
 unfolding consistent

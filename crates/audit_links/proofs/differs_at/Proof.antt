@@ -3,7 +3,7 @@ use Rattle.base.{specs.Base.{not, link_used, FileNo, Link}, proofs.Laws.{sym, ap
 use Rattle.consistency.specs.Good.{link_names_differ}
 use Rattle.layout.specs.Layout.{decode}
 use Rattle.tables.specs.Tables.{link_at}
-use Rattle.audit_links.proofs.{Links.{parents-differ, parents-same}, differs_at.Statement.statement}
+use Rattle.audit_links.proofs.{Links.{parents_differ, parents_same}, differs_at.Statement.statement}
 use Rattle.audit_links.proofs.differs_at.Tie as tie
 
 returns : tie.Need-returns
@@ -12,7 +12,7 @@ returns c =
     let a = p.before.before.args in
     let m = link_at (decode a.b.now).volume.links a.n in
     sym
-    (or_right (not (link_used m)) (parents-differ a.l m (λ e. c.if1.true (ap (λ (f : FileNo). f.0) p.read-parent.ensures ∙ sym e))))
+    (or_right (not (link_used m)) (parents_differ a.l m (λ e. c.if1.true (ap (λ (f : FileNo). f.0) p.read-parent.ensures ∙ sym e))))
 
 returns-2 : tie.Need-returns-2
 returns-2 c =
@@ -32,7 +32,7 @@ returns-3 c =
     let one = sym (ap (λ (f : FileNo). f.0) p.read-parent.ensures) ∙ r.before.if1.false in
     rw (
       ap link_used (sym r.read-link.ensures) ∙ sym u.link-used.ensures ∙ not-false u.link-used.result c.before.before.before.before.before.if2.false,
-      parents-same a.l m (sym one),
+      parents_same a.l m (sym one),
       ← r.read-link.ensures,
     )
     (ap not c.same_names.ensures)

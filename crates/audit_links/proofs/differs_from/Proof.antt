@@ -1,7 +1,7 @@
 -- `audit_links::differs_from` meets its contract. The invariant: what is asked is what the links from j on say.
-use Rattle.base.{specs.Base.{◌-◌, ◌≡◌, Bool, not, ◌||◌, drop, all, keep, link_used, zero_link, Link, link_slots}, proofs.Laws.{sym, ◌∙◌, arith, needs, not-true, not-false, all_fails, all-next, all_end, all_keep}}
+use Rattle.base.{specs.Base.{◌-◌, ◌≡◌, Bool, not, ◌||◌, drop, all, keep, link_used, zero_link, Link, link_slots}, proofs.Laws.{sym, ◌∙◌, arith, needs, not-true, not-false, all_fails, all_next, all_end, all_keep}}
 use Rattle.consistency.specs.Good.{link_names_differ}
-use Rattle.layout.{specs.Layout.decode, proofs.Lengths.links-count}
+use Rattle.layout.{specs.Layout.decode, proofs.Lengths.links_count}
 use Rattle.tables.specs.Tables.{link_at}
 use Rattle.audit_links.proofs.differs_from.Statement.{statement}
 use Rattle.audit_links.proofs.differs_from.Tie as tie
@@ -23,7 +23,7 @@ returns c =
     let l = c.before.before.before in
     let a = l.before.before.args in
     let ls = (decode a.b.now).volume.links in
-    let h = links-count a.b.now in
+    let h = links_count a.b.now in
     sym
     (l.loop.invariant
     ∙ all_fails (differs a.l) ls l.loop.j zero_link (omega arith) (sym c.before.differs_at.ensures ∙ not-true _ c.if1.true))
@@ -34,15 +34,15 @@ loop-again c =
     let l = c.before.before.before in
     let a = l.before.before.args in
     let ls = (decode a.b.now).volume.links in
-    let h = links-count a.b.now in
+    let h = links_count a.b.now in
     l.loop.invariant
-    ∙ all-next (differs a.l) ls l.loop.j zero_link (omega arith) (sym c.before.differs_at.ensures ∙ not-false _ c.if1.false)
+    ∙ all_next (differs a.l) ls l.loop.j zero_link (omega arith) (sym c.before.differs_at.ensures ∙ not-false _ c.if1.false)
 
 returns-2 : tie.Need-returns-2 invariant-loop decreases-loop
 returns-2 c =
     let l = c.before in
     let a = l.before.before.args in
-    let h = links-count a.b.now in
+    let h = links_count a.b.now in
     sym (l.loop.invariant ∙ all_end (differs a.l) (decode a.b.now).volume.links l.loop.j (omega arith))
 
 pub differs_from_spec : {M : Type 1} → statement M

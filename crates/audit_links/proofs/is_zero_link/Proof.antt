@@ -22,7 +22,7 @@ returns-3 c =
     let a = e.before.before.before.before in
     let l = a.args.l in
     rw (eq-eqb l.parent.0 0 e.before.before.if1.false, eq-eqb l.file.0 0 e.if2.false)
-    (c.zero-name.ensures ∙ ap (λ (n : ℕ). same l.name (replicate n 0)) (link_name_length l _ a.well-formed.0))
+    (c.zero-name.ensures ∙ ap (λ (n : ℕ). same l.name (replicate n 0)) (link_name_length l _ a.well_formed_lem.0))
 
 pub is_zero_link_spec : {M : Type 1} → statement M
 is_zero_link_spec = tie.close (tie.spec returns returns-2 (λ c. search needs) (λ c κs. search needs) returns-3)

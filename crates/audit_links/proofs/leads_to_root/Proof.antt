@@ -2,7 +2,7 @@
 -- steps above the present file as are left.
 use Rattle.base.{specs.Base.{ℕ, ◌≡◌, file_slots}, proofs.Laws.{refl, sym, ap, ◌∙◌, arith, needs}}
 use Rattle.audit_links.specs.Linked.{leads}
-use Rattle.audit_links.proofs.{Linked.{leads-here, leads-next, leads-past}, leads_to_root.Statement.statement}
+use Rattle.audit_links.proofs.{Linked.{leads_here, leads_next, leads_past}, leads_to_root.Statement.statement}
 use Rattle.audit_links.proofs.leads_to_root.Tie as tie
 
 abbrev invariant-loop : tie.invariant-loop
@@ -15,19 +15,19 @@ returns : tie.Need-returns invariant-loop decreases-loop
 returns c =
     let l = c.before.before in
     let up = l.before.args.up.now in
-    sym (l.loop.invariant ∙ leads-here up l.loop.left l.loop.at c.if1.true)
+    sym (l.loop.invariant ∙ leads_here up l.loop.left l.loop.at c.if1.true)
 
 returns-2 : tie.Need-returns-2 invariant-loop decreases-loop
 returns-2 c =
     let l = c.before.before.before in
     let up = l.before.args.up.now in
-    sym (l.loop.invariant ∙ leads-past up l.loop.left l.loop.at c.before.if1.false (omega arith))
+    sym (l.loop.invariant ∙ leads_past up l.loop.left l.loop.at c.before.if1.false (omega arith))
 
 loop-again : tie.Need-loop-preserved invariant-loop decreases-loop
 loop-again c =
     let l = c.before.before.before.before in
     let up = l.before.args.up.now in
-    l.loop.invariant ∙ leads-next up l.loop.left l.loop.at (omega arith) c.before.before.if1.false (omega arith)
+    l.loop.invariant ∙ leads_next up l.loop.left l.loop.at (omega arith) c.before.before.if1.false (omega arith)
 
 returns-3 : tie.Need-returns-3 invariant-loop decreases-loop
 unfolding leads

@@ -1,7 +1,7 @@
 -- `audit_links::names_differ` meets its contract. The invariant: what is asked is what the pairs from i on say.
-use Rattle.base.{specs.Base.{◌+◌, ◌-◌, ◌≡◌, true, ◌&&◌, drop, all, keep, pairs, link_used, zero_link, link_slots}, proofs.Laws.{sym, ap, ◌∙◌, ⊎_elim, arith, needs, refl, not-true, not-false, kept-past, pairs-kept, pairs_kept_end}}
+use Rattle.base.{specs.Base.{◌+◌, ◌-◌, ◌≡◌, true, ◌&&◌, drop, all, keep, pairs, link_used, zero_link, link_slots}, proofs.Laws.{sym, ap, ◌∙◌, ⊎_elim, arith, needs, refl, not-true, not-false, kept_past, pairs-kept, pairs_kept_end}}
 use Rattle.consistency.specs.Good.{link_names_differ}
-use Rattle.layout.{specs.Layout.decode, proofs.Lengths.links-count}
+use Rattle.layout.{specs.Layout.decode, proofs.Lengths.links_count}
 use Rattle.tables.specs.Tables.{link_at}
 use Rattle.audit_links.proofs.names_differ.Statement.{statement}
 use Rattle.audit_links.proofs.names_differ.Tie as tie
@@ -25,7 +25,7 @@ unfolding link_at
 asked c e =
     let l = c.before.before.before in
     let b = l.before.before.args.b.now in
-    let h = links-count b in
+    let h = links_count b in
     rw c.before.read-link.ensures
     (l.loop.invariant
     ∙ pairs-kept (decode b).volume.links l.loop.i zero_link (omega arith) link_used link_names_differ
@@ -42,12 +42,12 @@ loop-again c =
     let u = c.before in
     let l = u.before.before.before in
     let b = l.before.before.args.b.now in
-    let h = links-count b in
+    let h = links_count b in
     ⊎_elim (λ w. asked u w.0.taken ∙ rw (← w.1.ensures, not-false w.1.result w.2.left))
     (λ w.
     l.loop.invariant
     ∙ ap (pairs link_names_differ)
-    (kept-past (decode b).volume.links l.loop.i zero_link (omega arith) link_used
+    (kept_past (decode b).volume.links l.loop.i zero_link (omega arith) link_used
     (ap link_used (sym u.before.read-link.ensures) ∙ sym u.link-used.ensures ∙ w.left)))
     c.if1.branch
 
@@ -55,7 +55,7 @@ returns-2 : tie.Need-returns-2 invariant-loop decreases-loop
 returns-2 c =
     let l = c.before in
     let b = l.before.before.args.b.now in
-    let h = links-count b in
+    let h = links_count b in
     sym (l.loop.invariant ∙ pairs_kept_end (decode b).volume.links l.loop.i (omega arith) link_used link_names_differ)
 
 pub names_differ_spec : {M : Type 1} → statement M

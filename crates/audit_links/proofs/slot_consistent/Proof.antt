@@ -4,7 +4,7 @@ use Rattle.audit_links.proofs.slot_consistent.Statement.{statement}
 use Rattle.audit_links.proofs.slot_consistent.Tie as tie
 
 returns : tie.Need-returns
-returns c = rw (← c.before.before.link-used.ensures, c.before.if1.true) c.good-link.ensures
+returns c = rw (← c.before.before.link-used.ensures, c.before.if1.true) c.good_link_lem.ensures
 
 returns-2 : tie.Need-returns-2
 returns-2 c = rw (← c.before.before.link-used.ensures, c.before.if1.false) c.is-zero-link.ensures

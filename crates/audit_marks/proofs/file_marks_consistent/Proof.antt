@@ -1,7 +1,7 @@
 -- `audit_marks::file_marks_consistent` meets its contract. The invariant: what is asked is what the rest of the files say.
-use Rattle.base.{specs.Base.{ℕ, ◌-◌, ◌≡◌, Bool, List, drop, all_from, zero_file, file_slots, File}, proofs.Laws.{refl, sym, ◌∙◌, arith, needs, not-true, not-false, numbered-stops, numbered_next, numbered_end}}
+use Rattle.base.{specs.Base.{ℕ, ◌-◌, ◌≡◌, Bool, List, drop, all_from, zero_file, file_slots, File}, proofs.Laws.{refl, sym, ◌∙◌, arith, needs, not-true, not-false, numbered_stops, numbered_next, numbered_end}}
 use Rattle.consistency.specs.Test.{file_mark_test}
-use Rattle.layout.{specs.Layout.decode, proofs.Lengths.files-count}
+use Rattle.layout.{specs.Layout.decode, proofs.Lengths.files_count}
 use Rattle.tables.specs.Tables.{file_at}
 use Rattle.audit_marks.proofs.file_marks_consistent.Statement.{statement}
 use Rattle.audit_marks.proofs.file_marks_consistent.Tie as tie
@@ -20,16 +20,16 @@ unfolding file_at
 returns c =
     let l = c.before.before.before in
     let b = l.before.before.args.b.now in
-    let size = files-count b in
+    let size = files_count b in
     let failed = not-true c.before.file-mark-consistent.result c.if1.true in
-    sym (l.loop.invariant ∙ numbered-stops (test b) (decode b).volume.files l.loop.i zero_file (omega arith) (cc))
+    sym (l.loop.invariant ∙ numbered_stops (test b) (decode b).volume.files l.loop.i zero_file (omega arith) (cc))
 
 loop-again : tie.Need-loop-preserved invariant-loop decreases-loop
 unfolding file_at
 loop-again c =
     let l = c.before.before.before in
     let b = l.before.before.args.b.now in
-    let size = files-count b in
+    let size = files_count b in
     let passed = not-false c.before.file-mark-consistent.result c.if1.false in
     l.loop.invariant ∙ numbered_next (test b) (decode b).volume.files l.loop.i zero_file (omega arith) (cc)
 
@@ -37,7 +37,7 @@ returns-2 : tie.Need-returns-2 invariant-loop decreases-loop
 returns-2 c =
     let l = c.before in
     let b = l.before.before.args.b.now in
-    let size = files-count b in
+    let size = files_count b in
     sym (l.loop.invariant ∙ numbered_end (test b) (decode b).volume.files l.loop.i (omega arith))
 
 pub file_marks_consistent_spec : {M : Type 1} → statement M

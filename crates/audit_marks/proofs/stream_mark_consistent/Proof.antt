@@ -1,6 +1,6 @@
 -- `audit_marks::stream_mark_consistent` meets its contract: each test is one part of the definition.
 use Rattle.base.{specs.Base.{bare, namespace}, proofs.Laws.{sym, needs}}
-use Rattle.consistency.{specs.Test.stream_mark_test, proofs.Derived.bare-at}
+use Rattle.consistency.{specs.Test.stream_mark_test, proofs.Derived.bare_at_lem}
 use Rattle.layout.specs.Layout.{decode}
 use Rattle.audit_marks.proofs.stream_mark_consistent.Statement.{statement}
 use Rattle.audit_marks.proofs.stream_mark_consistent.Tie as tie
@@ -12,7 +12,7 @@ returns c =
     let a = m.before.before.args in
     sym
     (rw (
-      bare-at (decode a.b.now).volume.streams a.n,
+      bare_at_lem (decode a.b.now).volume.streams a.n,
       stream_mark_test,
       ← m.read-stream-mark.ensures,
       c.if1.true,
@@ -24,7 +24,7 @@ returns-2 c =
     let m = c.before.before in
     let a = m.before.before.args in
     rw (
-      bare-at (decode a.b.now).volume.streams a.n,
+      bare_at_lem (decode a.b.now).volume.streams a.n,
       stream_mark_test,
       ← m.read-stream-mark.ensures,
       c.before.if1.false,

@@ -1,8 +1,8 @@
 -- `audit_marks::stream_marks_consistent` meets its contract. The invariant: what is asked is what the rest of the streams
 -- say.
-use Rattle.base.{specs.Base.{ℕ, ◌-◌, ◌≡◌, Bool, List, length, drop, all_from, stream_slots, BareStream, zero_bare, bare, bare_at, namespace}, proofs.Laws.{refl, sym, ◌∙◌, arith, needs, length-map, not-true, not-false, numbered-stops, numbered_next, numbered_end}}
+use Rattle.base.{specs.Base.{ℕ, ◌-◌, ◌≡◌, Bool, List, length, drop, all_from, stream_slots, BareStream, zero_bare, bare, bare_at, namespace}, proofs.Laws.{refl, sym, ◌∙◌, arith, needs, length-map, not-true, not-false, numbered_stops, numbered_next, numbered_end}}
 use Rattle.consistency.specs.Test.{stream_mark_test}
-use Rattle.layout.{specs.Layout.decode, proofs.Lengths.streams-count}
+use Rattle.layout.{specs.Layout.decode, proofs.Lengths.streams_count}
 use Rattle.audit_marks.proofs.stream_marks_consistent.Statement.{statement}
 use Rattle.audit_marks.proofs.stream_marks_consistent.Tie as tie
 
@@ -13,9 +13,9 @@ module _ (b : List ℕ) where
   abbrev streams : List BareStream
   streams = (namespace (decode b).volume).streams
 
-  streams-long : length streams ≡ stream_slots
+  streams_long : length streams ≡ stream_slots
   unfolding namespace
-  streams-long = length-map (decode b).volume.streams bare ∙ streams-count b
+  streams_long = length-map (decode b).volume.streams bare ∙ streams_count b
 
 abbrev invariant-loop : tie.invariant-loop
 invariant-loop b i₀ i = all_from (test b) 0 (streams b) ≡ all_from (test b) i (drop i (streams b))
@@ -28,16 +28,16 @@ unfolding bare_at
 returns c =
     let l = c.before.before.before in
     let b = l.before.before.args.b.now in
-    let size = streams-long b in
+    let size = streams_long b in
     let failed = not-true c.before.stream-mark-consistent.result c.if1.true in
-    sym (l.loop.invariant ∙ numbered-stops (test b) (streams b) l.loop.i zero_bare (omega arith) (cc))
+    sym (l.loop.invariant ∙ numbered_stops (test b) (streams b) l.loop.i zero_bare (omega arith) (cc))
 
 loop-again : tie.Need-loop-preserved invariant-loop decreases-loop
 unfolding bare_at
 loop-again c =
     let l = c.before.before.before in
     let b = l.before.before.args.b.now in
-    let size = streams-long b in
+    let size = streams_long b in
     let passed = not-false c.before.stream-mark-consistent.result c.if1.false in
     l.loop.invariant ∙ numbered_next (test b) (streams b) l.loop.i zero_bare (omega arith) (cc)
 
@@ -45,7 +45,7 @@ returns-2 : tie.Need-returns-2 invariant-loop decreases-loop
 returns-2 c =
     let l = c.before in
     let b = l.before.before.args.b.now in
-    let size = streams-long b in
+    let size = streams_long b in
     sym (l.loop.invariant ∙ numbered_end (test b) (streams b) l.loop.i (omega arith))
 
 pub stream_marks_consistent_spec : {M : Type 1} → statement M

@@ -8,7 +8,7 @@ returns : tie.Need-returns
 unfolding good_open bare_used
 returns c =
     let w = c.before.before.before.before in
-    rw (← w.before.before.before.before.is-used.ensures, ← w.within.ensures)
+    rw (← w.before.before.before.before.is_used_lem.ensures, ← w.within.ensures)
 
 pub good_open_spec : {M : Type 1} → statement M
 good_open_spec = tie.close (tie.spec (λ c κs. search needs) (λ c κs. search needs) returns)

@@ -1,8 +1,8 @@
 -- `audit_opens::rows_consistent` meets its contract. The invariant: the pass over the rows from i on.
 use Rattle.base.{specs.Base.{◌≡◌, Bool, ◌≤◌, open_slots, namespace, Handle}, proofs.Laws.{sym, ◌∙◌, ap, arith, needs, not-true, not-false, Scanned}}
-use Rattle.layout.{specs.Layout.decode, proofs.Lengths.opens-count}
+use Rattle.layout.{specs.Layout.decode, proofs.Lengths.opens_count}
 use Rattle.tables.specs.Tables.{row_at}
-use Rattle.audit_opens.proofs.{OpensScan.{handle_no, open_test, row-found, pass_begins, pass_fails, pass_goes, rows_none, rows_fail, pass_ends}, rows_consistent.Statement.statement}
+use Rattle.audit_opens.proofs.{OpensScan.{handle_no, open_test, row_found, pass_begins, pass_fails, pass_goes, rows_none, rows_fail, pass_ends}, rows_consistent.Statement.statement}
 use Rattle.audit_opens.proofs.rows_consistent.Tie as tie
 
 abbrev invariant-loop : tie.invariant-loop
@@ -24,7 +24,7 @@ loop-holds : tie.Need-loop-init invariant-loop decreases-loop
 loop-holds c =
     let b = c.before.before.before.args.b.now in
     let v = (decode b).volume in
-    (omega arith, pass_begins v.streams v.next_handle.0 (decode b).opens.rows (opens-count b))
+    (omega arith, pass_begins v.streams v.next_handle.0 (decode b).opens.rows (opens_count b))
 
 -- the row's test, as found
 row_is : (c : tie.After-row-consistent invariant-loop decreases-loop) {x : Bool} → c.row-consistent.result ≡ x →
@@ -35,7 +35,7 @@ row_is c e =
     let o = c.before.before.before.before in
     let n = o.before.before.before.before in
     let v = (decode n.before.before.args.b.now).volume in
-    row-found v.streams v.next_handle.0 o.read-open.result c.before.before.read-stream-type.ensures
+    row_found v.streams v.next_handle.0 o.read-open.result c.before.before.read-stream-type.ensures
     c.before.read-stream-file.ensures (ap (λ (h : Handle). h.0) n.read_next.ensures) c.row-consistent.ensures e
 
 returns-2 : tie.Need-returns-2 invariant-loop decreases-loop
@@ -48,8 +48,8 @@ returns-2 c =
     let v = (decode b).volume in
     let given = ap (λ (h : Handle). h.0) n.read_next.ensures in
     sym
-    (rows_fail v.streams v.next_handle.0 (decode b).opens.rows (opens-count b) (omega (arith, l.before.if1.false))
-    (pass_fails v.streams _ (decode b).opens.rows (opens-count b) l.loop.i (omega arith) l.loop.invariant.1
+    (rows_fail v.streams v.next_handle.0 (decode b).opens.rows (opens_count b) (omega (arith, l.before.if1.false))
+    (pass_fails v.streams _ (decode b).opens.rows (opens_count b) l.loop.i (omega arith) l.loop.invariant.1
     o.read-open.ensures (row_is c.before (not-true _ c.if2.true))))
 
 loop-again : tie.Need-loop-preserved invariant-loop decreases-loop
@@ -59,14 +59,14 @@ loop-again c =
     let l = o.before.before in
     let b = l.before.before.before.before.args.b.now in (
       omega (arith, l.loop.invariant.0),
-      pass_goes (decode b).volume.streams _ (decode b).opens.rows (opens-count b) l.loop.i (omega arith) l.loop.invariant.1
+      pass_goes (decode b).volume.streams _ (decode b).opens.rows (opens_count b) l.loop.i (omega arith) l.loop.invariant.1
           o.read-open.ensures (row_is c.before (not-false _ c.if2.false)),
     )
 
 slice-aggregate-distinct : tie.Need-slice-aggregate-distinct invariant-loop decreases-loop
 slice-aggregate-distinct c =
     let l = c.before.before in
-    sym (l.loop.invariant.1.size ∙ opens-count l.before.before.before.before.args.b.now)
+    sym (l.loop.invariant.1.size ∙ opens_count l.before.before.before.before.args.b.now)
 
 returns-3 : tie.Need-returns-3 invariant-loop decreases-loop
 unfolding namespace
@@ -76,7 +76,7 @@ returns-3 c =
     let b = n.before.before.args.b.now in
     let given = ap (λ (h : Handle). h.0) n.read_next.ensures in
     c.distinct.ensures
-    ∙ sym (pass_ends (decode b).volume.streams _ (decode b).opens.rows (opens-count b) (omega (arith, l.before.if1.false))
+    ∙ sym (pass_ends (decode b).volume.streams _ (decode b).opens.rows (opens_count b) (omega (arith, l.before.if1.false))
     (omega arith) l.loop.invariant.1)
 
 pub rows_consistent_spec : {M : Type 1} → statement M

@@ -6,7 +6,7 @@ use Rattle.audit_streams.proofs.file_has_streams.Tie as tie
 
 returns : tie.Need-returns
 unfolding has_streams
-returns c = rw (has_streams, ← c.before.is-used.ensures, ← c.is-directory.ensures)
+returns c = rw (has_streams, ← c.before.is_used_lem.ensures, ← c.is-directory.ensures)
 
 pub file_has_streams_spec : {M : Type 1} → statement M
 file_has_streams_spec = tie.close (tie.spec (λ c κs. search needs) (λ c κs. search needs) returns)

@@ -21,7 +21,7 @@ returns-2 c =
       stream-parts a.of (bare a.s),
       ← n.good-stream-name.ensures,
       not-false n.good-stream-name.result u.before.before.if1.false,
-      ← d.before.before.is-used.ensures,
+      ← d.before.before.is_used_lem.ensures,
       ← d.before.is-directory.ensures,
       ← d.is-directory2.ensures,
       ← u.unit-at.ensures,

@@ -10,7 +10,7 @@ unfolding is_zero_stream bare
 returns c =
     let z = c.before in
     let a = z.before.before.before.before in
-    let zero = rw (stream_name_length a.args.s _ a.well-formed.0) at z.zero-name.ensures in
+    let zero = rw (stream_name_length a.args.s _ a.well_formed_lem.0) at z.zero-name.ensures in
     rw (is_zero_stream, ← zero)
 
 pub is_zero_stream_spec : {M : Type 1} → statement M

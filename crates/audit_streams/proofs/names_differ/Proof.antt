@@ -1,7 +1,7 @@
 -- `audit_streams::names_differ` meets its contract. The invariant: what is asked is what the streams from i on say.
 use Rattle.base.{specs.Base.{◌-◌, ◌≡◌, drop, keep, pairs, stream_slots, stream_used, zero_bare, bare, bare_at, bare_used}, proofs.Laws.{refl, sym, ◌∙◌, ap, ⊎_elim, arith, needs, not_both, not-true, not-false, pairs_kept_past, pairs_kept_fails, pairs_kept_end}}
 use Rattle.consistency.specs.Good.{stream_names_differ}
-use Rattle.audit_streams.proofs.{Streams.{streams, streams-long, stream-read}, names_differ.Statement.statement}
+use Rattle.audit_streams.proofs.{Streams.{streams, streams_long, stream_read}, names_differ.Statement.statement}
 use Rattle.audit_streams.proofs.names_differ.Tie as tie
 
 abbrev invariant-loop : tie.invariant-loop
@@ -16,8 +16,8 @@ returns c =
     let s = c.before.before.before.before in
     let l = s.before.before in
     let b = l.before.before.args.b.now in
-    let long = streams-long b in
-    let here = stream-read b (record { 0 = l.loop.i }) s.read-stream.ensures in
+    let long = streams_long b in
+    let here = stream_read b (record { 0 = l.loop.i }) s.read-stream.ensures in
     sym
     (l.loop.invariant
     ∙ pairs_kept_fails (streams b) l.loop.i zero_bare (omega arith) bare_used stream_names_differ
@@ -30,8 +30,8 @@ loop-again c =
     let s = c.before.before in
     let l = s.before.before in
     let b = l.before.before.args.b.now in
-    let long = streams-long b in
-    let here = stream-read b (record { 0 = l.loop.i }) s.read-stream.ensures in
+    let long = streams_long b in
+    let here = stream_read b (record { 0 = l.loop.i }) s.read-stream.ensures in
     l.loop.invariant
     ∙ pairs_kept_past (streams b) l.loop.i zero_bare (omega arith) bare_used stream_names_differ
     (λ u.
@@ -42,7 +42,7 @@ returns-2 : tie.Need-returns-2 invariant-loop decreases-loop
 returns-2 c =
     let l = c.before in
     let b = l.before.before.args.b.now in
-    let long = streams-long b in
+    let long = streams_long b in
     sym (l.loop.invariant ∙ pairs_kept_end (streams b) l.loop.i (omega arith) bare_used stream_names_differ)
 
 pub names_differ_spec : {M : Type 1} → statement M

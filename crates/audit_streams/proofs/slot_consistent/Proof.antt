@@ -5,7 +5,7 @@ use Rattle.audit_streams.proofs.slot_consistent.Tie as tie
 
 returns : tie.Need-returns
 unfolding bare_used bare stream_used
-returns c = rw (← c.before.before.stream-used.ensures, c.before.if1.true) c.good-stream.ensures
+returns c = rw (← c.before.before.stream-used.ensures, c.before.if1.true) c.good_stream_lem.ensures
 
 returns-2 : tie.Need-returns-2
 unfolding bare_used bare stream_used

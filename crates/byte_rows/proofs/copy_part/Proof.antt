@@ -2,7 +2,7 @@
 use Rattle.base.{specs.Base.{◌+◌, ◌-◌, ◌≡◌}, proofs.Laws.{sym, ◌∙◌, arith, needs}}
 use Rattle.codecs.proofs.Fields.{part_length}
 use Rattle.little_endian.specs.LittleEndian.{part}
-use Rattle.byte_rows.proofs.{Parts.part-written, copy_part.Statement.statement}
+use Rattle.byte_rows.proofs.{Parts.part_written, copy_part.Statement.statement}
 use Rattle.byte_rows.proofs.copy_part.Tie as tie
 
 returns : tie.Need-returns
@@ -11,7 +11,7 @@ returns c =
     let a = call.before.before.before.before.before.args in
     let size : a.at + a.size - a.at ≡ a.size = omega arith in
     let left : a.start + a.size - a.start ≡ a.size = omega arith in
-    part-written a.to.now (part a.from.now a.start a.size) a.at (a.at + a.size - a.at)
+    part_written a.to.now (part a.from.now a.start a.size) a.at (a.at + a.size - a.at)
     (rw left at call.copy.ensures) (part_length a.from.now a.start a.size (omega arith) ∙ sym size) (omega arith)
 
 pub copy_part_spec : {M : Type 1} → statement M

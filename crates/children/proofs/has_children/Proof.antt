@@ -2,7 +2,7 @@
 use Rattle.base.{specs.Base.{◌-◌, ◌≡◌, drop, any, link_slots, zero_link}, proofs.Laws.{refl, sym, ◌∙◌, ⊎_elim, arith, needs, eq-eqb, ne_eqb, any_here, any_next, any_none}}
 use mathlib.Core.Bool.{and-false}
 use Rattle.consistency.specs.Relations.{child_of, has_children}
-use Rattle.layout.{specs.Layout.decode, proofs.Lengths.links-count}
+use Rattle.layout.{specs.Layout.decode, proofs.Lengths.links_count}
 use Rattle.tables.specs.Tables.{link_at}
 use Rattle.children.proofs.has_children.Statement.{statement}
 use Rattle.children.proofs.has_children.Tie as tie
@@ -24,7 +24,7 @@ returns c =
     let p = u.before.before.before.before in
     let l = p.before.before in
     let a = l.before.before.args in
-    let n = links-count a.b.now in
+    let n = links_count a.b.now in
     sym
     (l.loop.invariant
     ∙ any_here (child_of a.f) (decode a.b.now).volume.links l.loop.i zero_link (omega arith)
@@ -36,7 +36,7 @@ loop-again c =
     let p = c.before.before.before in
     let l = p.before.before in
     let a = l.before.before.args in
-    let n = links-count a.b.now in
+    let n = links_count a.b.now in
     l.loop.invariant
     ∙ any_next (child_of a.f) (decode a.b.now).volume.links l.loop.i zero_link (omega arith)
     (⊎_elim (λ w. rw (← w.1.ensures, w.2.left))
@@ -46,7 +46,7 @@ returns-2 : tie.Need-returns-2 invariant-loop decreases-loop
 returns-2 c =
     let l = c.before in
     let a = l.before.before.args in
-    let n = links-count a.b.now in
+    let n = links_count a.b.now in
     sym (l.loop.invariant ∙ any_none (child_of a.f) (decode a.b.now).volume.links l.loop.i (omega arith))
 
 pub has_children_spec : {M : Type 1} → statement M

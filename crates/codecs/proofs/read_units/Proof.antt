@@ -2,7 +2,7 @@
 use Prim.Native.Nat.{◌-◌}
 use lib.ListN.{length}
 use native.Mathlib.Omega.{arith}
-use Rattle.codecs.proofs.{Rows.{Reading, reading_begins, reading-turn, reading-ends}, read_units.Statement.statement}
+use Rattle.codecs.proofs.{Rows.{Reading, reading_begins, reading_turn, reading_ends}, read_units.Statement.statement}
 use Rattle.codecs.proofs.read_units.Tie as tie
 
 abbrev invariant-loop : tie.invariant-loop
@@ -18,7 +18,7 @@ loop-again : tie.Need-loop-preserved invariant-loop decreases-loop
 loop-again c =
     let a = c.before.before.before.before.before.args in
     let l = c.before.before.loop in
-    reading-turn 2 a.b.now a.at a.to.now l.to l.i _ (omega arith) c.read-u16.ensures l.invariant
+    reading_turn 2 a.b.now a.at a.to.now l.to l.i _ (omega arith) c.read-u16.ensures l.invariant
 
 same_length : tie.Need-same-length invariant-loop decreases-loop
 same_length c = c.before.loop.invariant.kept
@@ -27,7 +27,7 @@ returns : tie.Need-returns invariant-loop decreases-loop
 returns c =
     let a = c.before.before.before.before.args in
     let l = c.before.loop in
-    reading-ends 2 a.b.now a.at a.to.now l.to l.i (omega arith) l.invariant
+    reading_ends 2 a.b.now a.at a.to.now l.to l.i (omega arith) l.invariant
 
 pub read_units_spec : {M : Type 1} → statement M
 read_units_spec =

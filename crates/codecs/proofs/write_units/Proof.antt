@@ -2,7 +2,7 @@
 use Prim.Native.Nat.{◌-◌}
 use lib.ListN.{length}
 use native.Mathlib.Omega.{arith}
-use Rattle.codecs.proofs.{Rows.{Writing, writing_begins, writing-turn, writing-ends}, write_units.Statement.statement}
+use Rattle.codecs.proofs.{Rows.{Writing, writing_begins, writing_turn, writing_ends}, write_units.Statement.statement}
 use Rattle.codecs.proofs.write_units.Tie as tie
 
 abbrev invariant-loop : tie.invariant-loop
@@ -16,10 +16,10 @@ loop-holds c = writing_begins 2 _ _ _
 
 loop-again : tie.Need-loop-preserved invariant-loop decreases-loop
 loop-again c =
-    writing-turn 2 (omega arith) c.before.before.before.before.before.before.loop.invariant c.before.before.write-u16.ensures
+    writing_turn 2 (omega arith) c.before.before.before.before.before.before.loop.invariant c.before.before.write-u16.ensures
 
 returns : tie.Need-returns invariant-loop decreases-loop
-returns c = writing-ends 2 (omega arith) c.before.loop.invariant
+returns c = writing_ends 2 (omega arith) c.before.loop.invariant
 
 pub write_units_spec : {M : Type 1} → statement M
 write_units_spec =

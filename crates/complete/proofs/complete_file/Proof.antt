@@ -4,7 +4,7 @@ use Rattle.layout.specs.Layout.{decode}
 use Rattle.open_steps.specs.{Pendings.as_file, Decisions.{as_placed, as_decision}, declared.PlacedOpen.TheVariants.NewFile}
 use Rattle.paths.specs.Positions.{as_leaf}
 use Rattle.store.specs.{Prepare.new_file, Complete.{place, complete}}
-use Rattle.complete.proofs.{NewFile.{named-is, place-file}, complete_file.Statement.statement}
+use Rattle.complete.proofs.{NewFile.{named_is, place-file}, complete_file.Statement.statement}
 use Rattle.complete.specs.Placing.{as_file_place, finished, TakesFreeRow}
 use Rattle.complete.proofs.complete_file.Tie as tie
 
@@ -15,7 +15,7 @@ placed : (p : tie.After-file-place) →
     place (namespace v) (new_file a.f.dir (as_leaf a.path.now a.f.leaf) (as_file v.files a.f))
     ≡ (as_file_place p.file-place.result >>= λ at. passed (as_placed (namespace v) a.path.now (NewFile a.f at)))
 unfolding namespace
-placed p = rw (place-file, ← named-is, ← p.before.part_of_lem.ensures, ← p.file-place.ensures)
+placed p = rw (place-file, ← named_is, ← p.before.part_of_lem.ensures, ← p.file-place.ensures)
 
 returns : tie.Need-returns
 unfolding as_decision as_file_place complete TakesFreeRow ◌>>=◌

@@ -8,15 +8,15 @@ returns : tie.Need-returns
 unfolding part_of
 returns c =
     let s = c.before.before.before.before.args.part.start in
-    let b = c.before.before.units-before.result.now in
-    take_all (length b - s) (drop s b) (omega (arith, length-drop s b)) ∙ ap (drop s) c.before.before.units-before.ensures
+    let b = c.before.before.units_before.result.now in
+    take_all (length b - s) (drop s b) (omega (arith, length-drop s b)) ∙ ap (drop s) c.before.before.units_before.ensures
 
 returns-2 : tie.Need-returns-2
 unfolding part_of
 returns-2 c =
     let s = c.before.before.before.before.args.part.start in
-    let b = c.before.before.units-before.result.now in
-    sym (drop_of_length-le b {i = s} (omega arith)) ∙ ap (drop s) c.before.before.units-before.ensures
+    let b = c.before.before.units_before.result.now in
+    sym (drop_of_length-le b {i = s} (omega arith)) ∙ ap (drop s) c.before.before.units_before.ensures
 
 pub part_of_spec : {M : Type 1} → statement M
 part_of_spec =

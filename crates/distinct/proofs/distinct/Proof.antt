@@ -1,7 +1,7 @@
 -- `distinct::distinct` meets its contract. The invariant: the arrays hold the keys before place i, none of
 -- which stands already before its own place.
 use Rattle.base.{specs.Base.{◌-◌, ◌≡◌, get_or, length}, proofs.Laws.{sym, ◌∙◌, arith, needs, ⊎_elim, not_both}}
-use Rattle.distinct.proofs.{Apart.{Apart, is_key_lem, no_key, apart_none, apart-past, distinct-all, distinct_not}, Filled.{Filled, fill_none, fill_past, fill_key, chain, chain_finds}, distinct.Statement.statement}
+use Rattle.distinct.proofs.{Apart.{Apart, is_key_lem, no_key, apart_none, apart_past, distinct_all, distinct_not}, Filled.{Filled, fill_none, fill_past, fill_key, chain, chain_finds}, distinct.Statement.statement}
 use Rattle.distinct.specs.Buckets.{found, Chain}
 use Rattle.distinct.proofs.distinct.Tie as tie
 
@@ -46,17 +46,17 @@ loop-again c =
     let u = is_key_lem key w.0.taken in
     let q = walked (record { before = record { before = record { before = c.before; if2 = w.0 }; bucket = w.1 }; next = w.2 }) in (
       rw (w.5, w.6, w.1.ensures.0) (fill_key l.loop.invariant.0 u (omega arith)),
-      apart-past keys l.loop.i l.loop.invariant.1 (λ _. sym q.1 ∙ sym (w.3.ensures q.0) ∙ w.4.left),
+      apart_past keys l.loop.i l.loop.invariant.1 (λ _. sym q.1 ∙ sym (w.3.ensures q.0) ∙ w.4.left),
     ))
     (λ w.
     let n = no_key key w.0.left in
-    (rw (w.1, w.2) (fill_past l.loop.invariant.0 n), apart-past keys l.loop.i l.loop.invariant.1 (λ u. absurd (not_both u n))))
+    (rw (w.1, w.2) (fill_past l.loop.invariant.0 n), apart_past keys l.loop.i l.loop.invariant.1 (λ u. absurd (not_both u n))))
     c.if2.branch
 
 returns-3 : tie.Need-returns-3 invariant-loop decreases-loop
 returns-3 c =
     let l = c.before in
-    sym (distinct-all l.before.before.before.args.keys.now l.loop.i c.loop-test.false l.loop.invariant.1)
+    sym (distinct_all l.before.before.before.args.keys.now l.loop.i c.loop-test.false l.loop.invariant.1)
 
 pub distinct_spec : {M : Type 1} → statement M
 distinct_spec =

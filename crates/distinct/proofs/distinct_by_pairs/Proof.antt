@@ -1,6 +1,6 @@
 -- `distinct::distinct_by_pairs` meets its contract. The invariant: no key before `place` stands already before its own place.
 use Rattle.base.{specs.Base.{◌-◌, ◌≡◌, false, get_or, length}, proofs.Laws.{sym, ◌∙◌, arith, needs, ⊎_elim, not_both}}
-use Rattle.distinct.proofs.{Apart.{Apart, is_key_lem, no_key, apart_none, apart-past, distinct-all, distinct_not}, distinct_by_pairs.Statement.statement}
+use Rattle.distinct.proofs.{Apart.{Apart, is_key_lem, no_key, apart_none, apart_past, distinct_all, distinct_not}, distinct_by_pairs.Statement.statement}
 use Rattle.distinct.specs.Buckets.{found}
 use Rattle.distinct.proofs.distinct_by_pairs.Tie as tie
 
@@ -24,7 +24,7 @@ loop-again c =
     let l = c.before.before.before in
     let keys = l.before.before.args.keys.now in
     let key = get_or keys l.loop.place 0 in
-    apart-past keys l.loop.place l.loop.invariant
+    apart_past keys l.loop.place l.loop.invariant
     (λ u.
     ⊎_elim {C = found keys key l.loop.place ≡ false} (λ w. sym w.1.ensures ∙ w.2.left) (λ w. absurd (not_both u (no_key key w.left)))
     c.if1.branch)
@@ -32,7 +32,7 @@ loop-again c =
 returns-2 : tie.Need-returns-2 invariant-loop decreases-loop
 returns-2 c =
     let l = c.before in
-    sym (distinct-all l.before.before.args.keys.now l.loop.place c.loop-test.false l.loop.invariant)
+    sym (distinct_all l.before.before.args.keys.now l.loop.place c.loop-test.false l.loop.invariant)
 
 pub distinct_by_pairs_spec : {M : Type 1} → statement M
 distinct_by_pairs_spec =

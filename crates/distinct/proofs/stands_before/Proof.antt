@@ -1,6 +1,6 @@
 -- `distinct::stands_before` meets its contract. The invariant: what is asked is whether the key stands before place i.
 use Rattle.base.{specs.Base.{◌-◌, ◌≡◌}, proofs.Laws.{refl, sym, ◌∙◌, ap, arith, needs}}
-use Rattle.distinct.proofs.{Chains.{found_here, found-past}, stands_before.Statement.statement}
+use Rattle.distinct.proofs.{Chains.{found_here, found_past}, stands_before.Statement.statement}
 use Rattle.distinct.specs.Buckets.{found}
 use Rattle.distinct.proofs.stands_before.Tie as tie
 
@@ -23,7 +23,7 @@ loop-again c =
     let l = c.before.before.before in
     let a = l.before.before.args in
     l.loop.invariant
-    ∙ found-past a.keys.now a.key (l.loop.i - 1) (omega arith) (λ e. c.if1.false (c.before.key-at.ensures ∙ e))
+    ∙ found_past a.keys.now a.key (l.loop.i - 1) (omega arith) (λ e. c.if1.false (c.before.key-at.ensures ∙ e))
 
 returns-2 : tie.Need-returns-2 invariant-loop decreases-loop
 unfolding found

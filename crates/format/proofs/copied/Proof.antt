@@ -1,6 +1,6 @@
 -- `format::copied` meets its contract: a turn of the loop copies one mask more.
 use Rattle.base.{specs.Base.{◌-◌, accounts, padded, take}, proofs.Laws.{sym, ◌∙◌, arith, needs, Copied, copied_none, copied_next, copied_all}}
-use Rattle.stored_names.proofs.Padded.{places_count, places-at}
+use Rattle.stored_names.proofs.Padded.{places_count, places_at}
 use Rattle.format.proofs.copied.Statement.{statement}
 use Rattle.format.proofs.copied.Tie as tie
 
@@ -18,7 +18,7 @@ loop-again c =
     let at = c.before.before.loop in
     let masks = c.before.before.before.before.args.masks.now in
     let k = places_count accounts masks in
-    copied_next 0 _ at.invariant (omega arith) (c.mask_at.ensures ∙ sym (places-at accounts masks at.account (omega arith)))
+    copied_next 0 _ at.invariant (omega arith) (c.mask_at.ensures ∙ sym (places_at accounts masks at.account (omega arith)))
 
 returns : tie.Need-returns invariant-loop decreases-loop
 returns c =

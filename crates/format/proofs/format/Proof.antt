@@ -1,7 +1,7 @@
 -- `format::format` meets its contract: the length decides, then the masks, and then the bytes are those of fresh tables.
 use Rattle.base.{specs.Base.{ℕ, List}, proofs.Laws.{refl, sym, ◌∙◌, ap, arith, needs, not-true, not-false}}
 use Rattle.layout.specs.Layout.{encode}
-use Rattle.format.proofs.{Bytes.{valid-count, masks-whole, other_length, invalid-masks, formatted}, format.Statement.statement}
+use Rattle.format.proofs.{Bytes.{valid-count, masks_whole, other_length, invalid_masks, formatted}, format.Statement.statement}
 use Rattle.format.specs.Format.{fresh_tables}
 use Rattle.format.proofs.format.Tie as tie
 
@@ -14,7 +14,7 @@ returns-2 : tie.Need-returns-2
 returns-2 c =
     let m = c.before in
     let a = m.before.before.before.before.args in
-    rw (invalid-masks a.b.now a.masks.now a.read_only (omega arith)
+    rw (invalid_masks a.b.now a.masks.now a.read_only (omega arith)
     (sym m.valid-masks.ensures ∙ not-true _ c.if2.true))
     (record { reply = refl; state = refl })
 
@@ -24,7 +24,7 @@ returns-3 c =
     let m = w.before.before.before.before in
     let a = m.before.before.before.before.args in
     let valid = sym m.valid-masks.ensures ∙ not-false _ w.before.before.before.if2.false in
-    let same = w.before.copied.ensures ∙ masks-whole a.masks.now (valid-count a.masks.now valid) in
+    let same = w.before.copied.ensures ∙ masks_whole a.masks.now (valid-count a.masks.now valid) in
     rw (formatted a.b.now a.masks.now a.read_only (omega arith) valid)
     (record {
       reply = refl;

@@ -1,6 +1,6 @@
 -- `free_slots::free_file` meets its contract: a turn of the loop looks at one slot more.
 use Rattle.base.{specs.Base.{◌-◌, not, file_slots, file_used, zero_file, namespace, some_or, ◌>>=◌}, proofs.Laws.{arith, needs, Searching, searching_begins, searching_finds, searching_turns, searching_ends}}
-use Rattle.layout.{specs.Layout.decode, proofs.Lengths.files-count}
+use Rattle.layout.{specs.Layout.decode, proofs.Lengths.files_count}
 use Rattle.tables.specs.Tables.{file_at}
 use Rattle.free_slots.proofs.free_file.Statement.{statement}
 use Rattle.free_slots.specs.Free.{free_file, file_slot}
@@ -18,8 +18,8 @@ returns c =
     let u = c.before in
     let r = u.before in
     let l = r.before.before in
-    let n = files-count l.before.before.args.b.now in
-    rw (searching_finds l.loop.invariant zero_file (omega arith) (rw (← r.read-file-type.ensures, ← u.is-used.ensures) c.if1.true))
+    let n = files_count l.before.before.args.b.now in
+    rw (searching_finds l.loop.invariant zero_file (omega arith) (rw (← r.read-file-type.ensures, ← u.is_used_lem.ensures) c.if1.true))
 
 loop-again : tie.Need-loop-preserved invariant-loop decreases-loop
 unfolding file_at file_used
@@ -27,14 +27,14 @@ loop-again c =
     let u = c.before in
     let r = u.before in
     let l = r.before.before in
-    let n = files-count l.before.before.args.b.now in
-    searching_turns l.loop.invariant zero_file (omega arith) (rw (← r.read-file-type.ensures, ← u.is-used.ensures) c.if1.false)
+    let n = files_count l.before.before.args.b.now in
+    searching_turns l.loop.invariant zero_file (omega arith) (rw (← r.read-file-type.ensures, ← u.is_used_lem.ensures) c.if1.false)
 
 returns-2 : tie.Need-returns-2 invariant-loop decreases-loop
 unfolding file_slot free_file namespace some_or ◌>>=◌
 returns-2 c =
     let l = c.before in
-    let n = files-count l.before.before.args.b.now in
+    let n = files_count l.before.before.args.b.now in
     rw (searching_ends l.loop.invariant (omega arith))
 
 pub free_file_spec : {M : Type 1} → statement M

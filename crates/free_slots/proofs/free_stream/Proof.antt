@@ -1,6 +1,6 @@
 -- `free_slots::free_stream` meets its contract: a turn of the loop looks at one slot more.
 use Rattle.base.{specs.Base.{◌-◌, not, bare, stream_slots, bare_used, zero_stream, namespace, some_or, ◌>>=◌}, proofs.Laws.{arith, needs, after_map, Searching, searching_begins, searching_finds, searching_turns, searching_ends}}
-use Rattle.layout.{specs.Layout.decode, proofs.Lengths.streams-count}
+use Rattle.layout.{specs.Layout.decode, proofs.Lengths.streams_count}
 use Rattle.tables.specs.Tables.{stream_at}
 use Rattle.free_slots.proofs.free_stream.Statement.{statement}
 use Rattle.free_slots.specs.Free.{free_stream, stream_slot}
@@ -18,8 +18,8 @@ returns c =
     let u = c.before in
     let r = u.before in
     let l = r.before.before in
-    let n = streams-count l.before.before.args.b.now in
-    rw (after_map, searching_finds l.loop.invariant zero_stream (omega arith) (rw (← r.read-stream-type.ensures, ← u.is-used.ensures) c.if1.true))
+    let n = streams_count l.before.before.args.b.now in
+    rw (after_map, searching_finds l.loop.invariant zero_stream (omega arith) (rw (← r.read-stream-type.ensures, ← u.is_used_lem.ensures) c.if1.true))
 
 loop-again : tie.Need-loop-preserved invariant-loop decreases-loop
 unfolding stream_at bare_used bare
@@ -27,14 +27,14 @@ loop-again c =
     let u = c.before in
     let r = u.before in
     let l = r.before.before in
-    let n = streams-count l.before.before.args.b.now in
-    searching_turns l.loop.invariant zero_stream (omega arith) (rw (← r.read-stream-type.ensures, ← u.is-used.ensures) c.if1.false)
+    let n = streams_count l.before.before.args.b.now in
+    searching_turns l.loop.invariant zero_stream (omega arith) (rw (← r.read-stream-type.ensures, ← u.is_used_lem.ensures) c.if1.false)
 
 returns-2 : tie.Need-returns-2 invariant-loop decreases-loop
 unfolding stream_slot free_stream namespace some_or ◌>>=◌ bare
 returns-2 c =
     let l = c.before in
-    let n = streams-count l.before.before.args.b.now in
+    let n = streams_count l.before.before.args.b.now in
     rw (after_map, searching_ends l.loop.invariant (omega arith))
 
 pub free_stream_spec : {M : Type 1} → statement M

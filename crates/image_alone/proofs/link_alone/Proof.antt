@@ -6,7 +6,7 @@ use Rattle.image_alone.proofs.link_alone.Tie as tie
 
 returns : tie.Need-returns
 unfolding link_alone
-returns c = rw (← c.before.before.slot-consistent.ensures, ← c.before.link-used.ensures, ← c.link-placed.ensures)
+returns c = rw (← c.before.before.slot-consistent.ensures, ← c.before.link-used.ensures, ← c.link_placed_lem.ensures)
 
 pub link_alone_spec : {M : Type 1} → statement M
 link_alone_spec = tie.close (tie.spec (λ c κs. search needs) (λ c κs. search needs) (λ c κs. search needs) returns)

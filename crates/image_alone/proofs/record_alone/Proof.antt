@@ -14,7 +14,7 @@ returns-2 c =
     let stands = c.before.before.before in
     rw (
       stands.before.before.held.given.1,
-      ← stands.file-stands.ensures,
+      ← stands.file_stands.ensures,
       c.before.before.if1.true,
       ← c.before.file-from.ensures,
     )
@@ -22,7 +22,7 @@ returns-2 c =
 
 returns-3 : tie.Need-returns-3
 unfolding record_alone record_in record_at preface size_of
-returns-3 c = rw (c.before.before.before.held.given.1, ← c.before.file-stands.ensures, c.if1.false)
+returns-3 c = rw (c.before.before.before.held.given.1, ← c.before.file_stands.ensures, c.if1.false)
 
 returns-4 : tie.Need-returns-4
 unfolding record_alone record_in record_at preface size_of
@@ -34,7 +34,7 @@ returns-5 c =
     let stands = c.before.before.before in
     rw (
       stands.before.enum-told3.given.1,
-      ← stands.stream-stands.ensures,
+      ← stands.stream_stands.ensures,
       c.before.before.if2.true,
       ← c.before.stream-from.ensures,
     )
@@ -42,7 +42,7 @@ returns-5 c =
 
 returns-6 : tie.Need-returns-6
 unfolding record_alone record_in record_at preface size_of
-returns-6 c = rw (c.before.before.enum-told3.given.1, ← c.before.stream-stands.ensures, c.if2.false)
+returns-6 c = rw (c.before.before.enum-told3.given.1, ← c.before.stream_stands.ensures, c.if2.false)
 
 returns-7 : tie.Need-returns-7
 unfolding record_alone

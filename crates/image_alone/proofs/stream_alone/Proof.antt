@@ -13,7 +13,7 @@ returns c =
     rw (
       ← used.before.slot-consistent.ensures,
       ← used.stream-used.ensures,
-      ← placed.stream-placed.ensures,
+      ← placed.stream_placed_lem.ensures,
       ← counts.same-counts.ensures,
     )
 

@@ -2,7 +2,7 @@
 use Rattle.base.proofs.Laws.{arith, needs}
 use borrow.Author.Tests.{le-ltb}
 use Rattle.image.specs.Blocks.{image_blocks}
-use Rattle.image_alone.proofs.{Formed.{formed, record-fits}, well_formed.Statement.statement}
+use Rattle.image_alone.proofs.{Formed.{formed, record_fits}, well_formed.Statement.statement}
 use Rattle.image_alone.proofs.well_formed.Tie as tie
 
 returns : tie.Need-returns
@@ -11,12 +11,12 @@ returns c = rw (le-ltb c.before.before.args.n image_blocks (omega arith))
 sub-is-clear : tie.Need-overflow-sub-is-clear
 sub-is-clear c =
     let end = c.before.before in
-    omega (arith, end.record-end.ensures, record-fits end.before.record_of.result)
+    omega (arith, end.record-end.ensures, record_fits end.before.record_of.result)
 
 part-is-clear-start : tie.Need-slice-bounds-is-clear-start
 part-is-clear-start c =
     let end = c.before.before in
-    omega (arith, end.record-end.ensures, record-fits end.before.record_of.result)
+    omega (arith, end.record-end.ensures, record_fits end.before.record_of.result)
 
 returns-2 : tie.Need-returns-2
 returns-2 c =

@@ -2,7 +2,7 @@
 use Rattle.base.{specs.Base.{◌-◌, ◌≡◌, length}, proofs.Laws.{sym, ◌∙◌, arith, needs, not-true, not-false}}
 use Rattle.layout.specs.Layout.{tables_size}
 use Rattle.image.specs.{Blocks.block_size, Image.Reading}
-use Rattle.image_read.proofs.Blocks.{nth, ReadTo, read_none, nth-length, read_next, read-stops, read-ends}
+use Rattle.image_read.proofs.Blocks.{nth, ReadTo, read_none, nth_length, read_next, read_stops, read_ends}
 use Rattle.image_read.proofs.read_blocks.Statement.{statement}
 use Rattle.image_read.proofs.read_blocks.Tie as tie
 
@@ -21,14 +21,14 @@ lent : (c : tie.After-block invariant-loop decreases-loop) → length (nth (entr
 lent c =
     let l = c.before.before in
     let start = l.before.before.before in
-    nth-length (entry start) start.args.row.now l.loop.i (omega arith)
+    nth_length (entry start) start.args.row.now l.loop.i (omega arith)
 
 returns : tie.Need-returns invariant-loop decreases-loop
 returns c =
     let test = c.before in
     let l = test.before.before.before in
     let start = l.before.before.before in
-    read-stops (entry start) start.args.row.now l.loop.spare l.loop.i l.loop.invariant.1 (omega arith)
+    read_stops (entry start) start.args.row.now l.loop.spare l.loop.i l.loop.invariant.1 (omega arith)
     (sym test.block-alone.ensures ∙ not-true test.block-alone.result c.if1.true)
 
 loop-again : tie.Need-loop-preserved invariant-loop decreases-loop
@@ -46,7 +46,7 @@ returns-2 : tie.Need-returns-2 invariant-loop decreases-loop
 returns-2 c =
     let l = c.before in
     let start = l.before.before.before in
-    read-ends (entry start) start.args.row.now l.loop.spare l.loop.i l.loop.invariant.1 (omega arith)
+    read_ends (entry start) start.args.row.now l.loop.spare l.loop.i l.loop.invariant.1 (omega arith)
 
 pub read_blocks_spec : {M : Type 1} → statement M
 read_blocks_spec =

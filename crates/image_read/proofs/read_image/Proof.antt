@@ -1,7 +1,7 @@
 -- `image_read::read_image` meets its contract: the length of the second set, then the row.
 use Rattle.base.{specs.Base.{◌+◌, ◌≤◌, ◌≡◌, true, length}, proofs.Laws.{refl, arith, needs, not-true, not-false}}
 use Rattle.image.specs.{Blocks.image_blocks, Image.{Reading, blocks_in}}
-use Rattle.image_read.proofs.{Rows.row_ends, Calls.{read_length, read-refused, read_done}}
+use Rattle.image_read.proofs.{Rows.row_ends, Calls.{read_length, read_refused, read_done}}
 use Rattle.image_read.proofs.read_image.Statement.{statement}
 use Rattle.image_read.proofs.read_image.Tie as tie
 
@@ -20,7 +20,7 @@ returns-2 c =
     let test = refused.before.before.before in
     let read = test.before.before.before in
     let start = read.before.before.before.before.before.before in
-    rw (read-refused (entry start) start.args.row.now (omega arith) _ read.read-row.result read.read-row.ensures (not-true read.read-row.result test.if2.true))
+    rw (read_refused (entry start) start.args.row.now (omega arith) _ read.read-row.result read.read-row.ensures (not-true read.read-row.result test.if2.true))
     refused.refuse-reading.ensures
 
 -- where the blocks of a row that was read end

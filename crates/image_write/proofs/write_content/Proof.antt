@@ -6,17 +6,17 @@ use Rattle.image_write.specs.Kept.{kept_size, kept_content}
 use Rattle.image_write.proofs.write_content.Tie as tie
 
 -- a slot that the record names is one that there is
-file-slot : (c : tie.After-known-told) → c.before.k.given.0.0 < file_slots
+file_slot_lem : (c : tie.After-known-told) → c.before.k.given.0.0 < file_slots
 unfolding Within
-file-slot c = named-within _ c.before.before.before.record_of.ensures c.before.k.given.1
+file_slot_lem c = named-within _ c.before.before.before.record_of.ensures c.before.k.given.1
 
-link-slot : (c : tie.After-known-told2) → c.before.k2.given.0.0 < link_slots
+link_slot_lem : (c : tie.After-known-told2) → c.before.k2.given.0.0 < link_slots
 unfolding Within
-link-slot c = named-within _ c.before.before.before.record_of.ensures c.before.k2.given.1
+link_slot_lem c = named-within _ c.before.before.before.record_of.ensures c.before.k2.given.1
 
-stream-slot : (c : tie.After-known-told3) → c.before.k3.given.0.0 < stream_slots
+stream_slot_lem : (c : tie.After-known-told3) → c.before.k3.given.0.0 < stream_slots
 unfolding Within
-stream-slot c = named-within _ c.before.before.before.record_of.ensures c.before.k3.given.1
+stream_slot_lem c = named-within _ c.before.before.before.record_of.ensures c.before.k3.given.1
 
 returns : tie.Need-returns
 returns c =
@@ -53,17 +53,17 @@ write_content_spec =
     (λ c. search needs)
     (λ c κs. search needs)
     (λ c. search needs)
-    (λ c. let k = file-slot c in record { fits = omega arith })
-    (λ c. let k = file-slot c in record { fits = omega arith })
-    (λ c κs. let k = file-slot c.before in (omega arith, omega arith))
+    (λ c. let k = file_slot_lem c in record { fits = omega arith })
+    (λ c. let k = file_slot_lem c in record { fits = omega arith })
+    (λ c κs. let k = file_slot_lem c.before in (omega arith, omega arith))
     (λ c. search needs)
-    (λ c. let k = link-slot c in record { fits = omega arith })
-    (λ c. let k = link-slot c in record { fits = omega arith })
-    (λ c κs. let k = link-slot c.before in (omega arith, omega arith))
+    (λ c. let k = link_slot_lem c in record { fits = omega arith })
+    (λ c. let k = link_slot_lem c in record { fits = omega arith })
+    (λ c κs. let k = link_slot_lem c.before in (omega arith, omega arith))
     (λ c. search needs)
-    (λ c. let k = stream-slot c in record { fits = omega arith })
-    (λ c. let k = stream-slot c in record { fits = omega arith })
-    (λ c κs. let k = stream-slot c.before in (omega arith, omega arith))
+    (λ c. let k = stream_slot_lem c in record { fits = omega arith })
+    (λ c. let k = stream_slot_lem c in record { fits = omega arith })
+    (λ c κs. let k = stream_slot_lem c.before in (omega arith, omega arith))
     (λ c. search needs)
     (λ c. search needs)
     returns

@@ -3,10 +3,10 @@
 use Rattle.base.{specs.Base.{◌+◌, ◌-◌, ◌<◌, ◌≤◌, ◌≡◌, true, length}, proofs.Laws.{refl, sym, ◌∙◌, arith, needs, not-true, not-false, length-take, length-drop}}
 use Rattle.audit.specs.Sound.{sound_bytes}
 use Rattle.image.specs.Blocks.{block_size, without_opens}
-use Rattle.layout.{specs.Layout.{encode, decode}, proofs.Tables.stands-length}
+use Rattle.layout.{specs.Layout.{encode, decode}, proofs.Tables.stands_length}
 use Rattle.little_endian.specs.LittleEndian.{Bytes}
-use Rattle.image_laws.proofs.SavedSound.{sound-stands}
-use Rattle.image_write.proofs.{Kept.kept_block_lem, Rows.{Room, room, Writing, writing_begins, writing-long, next-room, next-block, writing-turn, writing-ends, unsound, no_room, filled}, write_image.Statement.statement}
+use Rattle.image_laws.proofs.SavedSound.{sound_stands}
+use Rattle.image_write.proofs.{Kept.kept_block_lem, Rows.{Room, room, Writing, writing_begins, writing-long, next_room, next_block, writing_turn, writing_ends, unsound, no_room, filled}, write_image.Statement.statement}
 use Rattle.image_write.proofs.write_image.Tie as tie
 
 abbrev invariant-loop : tie.invariant-loop
@@ -47,13 +47,13 @@ ahead c = omega (arith, writing-long c.before.loop.invariant)
 whole : (c : tie.In-loop invariant-loop decreases-loop) → c.before.loop.at + block_size ≤ length c.before.loop.row
 whole c =
     let l = c.before in
-    omega (arith, next-room (fits l) l.loop.invariant (ahead c), writing-long l.loop.invariant)
+    omega (arith, next_room (fits l) l.loop.invariant (ahead c), writing-long l.loop.invariant)
 
 write-block-requires : tie.Need-write-block-requires invariant-loop decreases-loop
 write-block-requires c κs =
     let t = c.before in
     let tables = t.before.before.before.before.before.before.before.before.args.tables.now in (
-      stands-length tables (sound-stands tables (sound t.before)),
+      stands_length tables (sound_stands tables (sound t.before)),
       simp (length-take, length-drop) (omega (arith, whole t)),
     )
 
@@ -65,9 +65,9 @@ loop-again c =
     let known = l.before.before.before.before.before.before in
     let tables = known.before.args.tables.now in
     let bytes : Bytes tables = λ i. omega (arith, known.shared-slice-known.given i) in
-    let is = call.write-block.ensures ∙ kept_block_lem tables bytes (sound-stands tables (sound l)) l.loop.n in
+    let is = call.write-block.ensures ∙ kept_block_lem tables bytes (sound_stands tables (sound l)) l.loop.n in
     let long = call.write-block.auto.1.1.0 in
-    writing-turn (fits l) l.loop.invariant (l.loop.at + block_size - l.loop.at) (ahead t) (omega arith)
+    writing_turn (fits l) l.loop.invariant (l.loop.at + block_size - l.loop.at) (ahead t) (omega arith)
     (long ∙ (simp (length-take, length-drop) (omega (arith, whole t)))) is
 
 returns-3 : tie.Need-returns-3 invariant-loop decreases-loop
@@ -76,7 +76,7 @@ returns-3 c =
     let a = l.before.before.before.before.before.before.before.args in
     rw (filled a.tables.now a.first a.row.now (sound l)
     (sym l.before.before.before.row_fits.ensures ∙ not-false _ l.before.if2.false))
-    (record { reply = refl; state = writing-ends (fits l) l.loop.invariant (omega (arith, writing-long l.loop.invariant)) })
+    (record { reply = refl; state = writing_ends (fits l) l.loop.invariant (omega (arith, writing-long l.loop.invariant)) })
 
 pub write_image_spec : {M : Type 1} → statement M
 write_image_spec =
@@ -89,7 +89,7 @@ write_image_spec =
     returns
     returns-2
     (λ c. writing_begins _ _ _)
-    (λ c. record { fits = omega (arith, next-block (fits c.before) c.before.loop.invariant (ahead c)) })
+    (λ c. record { fits = omega (arith, next_block (fits c.before) c.before.loop.invariant (ahead c)) })
     (λ c. record { fits = omega (arith, whole c) })
     (λ c. omega arith)
     (λ c. omega arith)

@@ -1,5 +1,5 @@
 -- `layout::kind_of` meets its contract: the tests are the cases.
-use Rattle.layout.proofs.{Tests.directory-kind, kind_of.Statement.statement}
+use Rattle.layout.proofs.{Tests.directory_kind, kind_of.Statement.statement}
 use Rattle.layout.specs.Kinds.{kind_of}
 use Rattle.layout.proofs.kind_of.Tie as tie
 
@@ -12,7 +12,7 @@ unfolding kind_of
 returns-2 c = rw c.if2.true
 
 returns-3 : tie.Need-returns-3
-returns-3 c = directory-kind c.before.before.args.n c.before.if1.false c.if2.false
+returns-3 c = directory_kind c.before.before.args.n c.before.if1.false c.if2.false
 
 pub kind_of_spec : {M : Type 1} → statement M
 kind_of_spec =

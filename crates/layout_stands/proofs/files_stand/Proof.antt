@@ -21,7 +21,7 @@ returns c =
     let b = l.before.before.args.b.now in
     sym
     (standing_fails file_codec file_slots _ l.loop.i (omega arith)
-    (file_stands_at b l.loop.i (omega arith) ∙ rw (← c.before.file-stands.ensures) (not-true _ c.if1.true))
+    (file_stands_at b l.loop.i (omega arith) ∙ rw (← c.before.file_stands.ensures) (not-true _ c.if1.true))
     l.loop.invariant)
 
 loop-again : tie.Need-loop-preserved invariant-loop decreases-loop
@@ -29,7 +29,7 @@ loop-again c =
     let l = c.before.before.before in
     let b = l.before.before.args.b.now in
     standing_turn file_codec file_slots _ l.loop.i (omega arith)
-    (file_stands_at b l.loop.i (omega arith) ∙ rw (← c.before.file-stands.ensures) (not-false _ c.if1.false))
+    (file_stands_at b l.loop.i (omega arith) ∙ rw (← c.before.file_stands.ensures) (not-false _ c.if1.false))
     l.loop.invariant
 
 returns-2 : tie.Need-returns-2 invariant-loop decreases-loop

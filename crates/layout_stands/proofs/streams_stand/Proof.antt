@@ -21,7 +21,7 @@ returns c =
     let b = l.before.before.args.b.now in
     sym
     (standing_fails stream_codec stream_slots _ l.loop.i (omega arith)
-    (stream_stands_at b l.loop.i (omega arith) ∙ rw (← c.before.stream-stands.ensures) (not-true _ c.if1.true))
+    (stream_stands_at b l.loop.i (omega arith) ∙ rw (← c.before.stream_stands.ensures) (not-true _ c.if1.true))
     l.loop.invariant)
 
 loop-again : tie.Need-loop-preserved invariant-loop decreases-loop
@@ -29,7 +29,7 @@ loop-again c =
     let l = c.before.before.before in
     let b = l.before.before.args.b.now in
     standing_turn stream_codec stream_slots _ l.loop.i (omega arith)
-    (stream_stands_at b l.loop.i (omega arith) ∙ rw (← c.before.stream-stands.ensures) (not-false _ c.if1.false))
+    (stream_stands_at b l.loop.i (omega arith) ∙ rw (← c.before.stream_stands.ensures) (not-false _ c.if1.false))
     l.loop.invariant
 
 returns-2 : tie.Need-returns-2 invariant-loop decreases-loop

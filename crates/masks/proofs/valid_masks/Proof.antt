@@ -1,5 +1,5 @@
 -- `masks::valid_masks` meets its contract. The invariant: what is asked is what the rest of the masks say.
-use Rattle.base.{specs.Base.{ℕ, ◌-◌, ◌≡◌, Bool, length, drop, within, all, accounts, all_access}, proofs.Laws.{sym, ◌∙◌, arith, needs, eq-eqb, ne_eqb, not-true, not-false, all_end, all_fails, all-next}}
+use Rattle.base.{specs.Base.{ℕ, ◌-◌, ◌≡◌, Bool, length, drop, within, all, accounts, all_access}, proofs.Laws.{sym, ◌∙◌, arith, needs, eq-eqb, ne_eqb, not-true, not-false, all_end, all_fails, all_next}}
 use Rattle.consistency.specs.Relations.{valid_masks}
 use Rattle.masks.proofs.valid_masks.Statement.{statement}
 use Rattle.masks.proofs.valid_masks.Tie as tie
@@ -35,7 +35,7 @@ loop-again c =
     let w = c.before in
     let l = w.before.before.before in
     l.loop.invariant
-    ∙ all-next valid l.before.before.before.args.masks.now l.loop.account 0 (omega arith)
+    ∙ all_next valid l.before.before.before.args.masks.now l.loop.account 0 (omega arith)
     (sym w.within.ensures ∙ not-false _ c.if2.false)
 
 returns-3 : tie.Need-returns-3 invariant-loop decreases-loop

@@ -1,5 +1,5 @@
 -- `masks::zero_masks` meets its contract. The invariant: what is asked is what the rest of the masks say.
-use Rattle.base.{specs.Base.{ℕ, ◌-◌, ◌≡◌, drop, replicate, same, accounts}, proofs.Laws.{refl, sym, ◌∙◌, arith, get_or-replicate, needs, same-lengths, same_next, same-stops, same_end}}
+use Rattle.base.{specs.Base.{ℕ, ◌-◌, ◌≡◌, drop, replicate, same, accounts}, proofs.Laws.{refl, sym, ◌∙◌, arith, get_or-replicate, needs, same-lengths, same_next, same_stops, same_end}}
 use Rattle.masks.proofs.zero_masks.Statement.{statement}
 use Rattle.masks.proofs.zero_masks.Tie as tie
 
@@ -19,7 +19,7 @@ returns-2 c =
     let z = get_or-replicate {A = ℕ} accounts l.loop.i 0 0 (omega arith) in
     sym
     (l.loop.invariant
-    ∙ same-stops l.before.before.args.masks.now (replicate accounts 0) l.loop.i 0 0 (omega arith) (omega arith)
+    ∙ same_stops l.before.before.args.masks.now (replicate accounts 0) l.loop.i 0 0 (omega arith) (omega arith)
     (λ e. c.if2.true (e ∙ z)))
 
 loop-again : tie.Need-loop-preserved invariant-loop decreases-loop

@@ -1,7 +1,7 @@
 -- `name_keys::name_key` meets its contract. The loop's invariant: what was added up, with what the places left weigh, is
 -- the name's.
 use Rattle.base.{specs.Base.{◌+◌, ◌*◌, ◌-◌, ◌≤◌, ◌≡◌, file_name_limit, length, get_or, drop}, proofs.Laws.{arith, needs, eq-eqb, ne_eqb}}
-use Rattle.name_keys.proofs.{Weights.{weighed-next, weighed_end}, name_key.Statement.statement}
+use Rattle.name_keys.proofs.{Weights.{weighed_next, weighed_end}, name_key.Statement.statement}
 use Rattle.name_keys.specs.NameKeys.{low_weights, high_weights, weighed, weighed_from, name_key, stored_key}
 use Rattle.name_keys.proofs.name_key.Tie as tie
 
@@ -38,7 +38,7 @@ loop-again c =
     let n = l.before.before.before.args.name.now in (
       omega arith,
       omega (arith, c.weigh.ensures.1),
-      omega (arith, weighs c, weighed-next n l.loop.i (omega arith)),
+      omega (arith, weighs c, weighed_next n l.loop.i (omega arith)),
     )
 
 returns-2 : tie.Need-returns-2 invariant-loop decreases-loop

@@ -19,7 +19,7 @@ returns-4 c =
     let w = c.before in
     let d = w.before.before in
     let s = d.before.before.before in
-    rw (w.well-stored.ensures, c.zeros-or-valid.ensures)
+    rw (w.well_stored_lem.ensures, c.zeros-or-valid.ensures)
     (good_file_other s.before.before.args.name.now s.if1.false d.before.if2.false (sym d.is-dots.ensures ∙ w.before.if3.false))
 
 pub good_file_name_spec : {M : Type 1} → statement M

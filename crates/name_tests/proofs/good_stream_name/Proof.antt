@@ -10,7 +10,7 @@ returns-2 : tie.Need-returns-2
 returns-2 c =
     let w = c.before in
     let s = w.before.before.before in
-    rw (w.well-stored.ensures, c.zeros-or-valid.ensures) (good_stream_other s.before.before.args.name.now s.if1.false)
+    rw (w.well_stored_lem.ensures, c.zeros-or-valid.ensures) (good_stream_other s.before.before.args.name.now s.if1.false)
 
 returns-3 : tie.Need-returns-3
 returns-3 c =

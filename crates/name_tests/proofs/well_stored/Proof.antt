@@ -2,7 +2,7 @@
 -- left give, is that of the name.
 use Rattle.base.{specs.Base.{◌+◌, ◌*◌, ◌-◌, ◌≤◌, ◌≡◌, file_name_limit, length, get_or, drop}, proofs.Laws.{arith, needs, le-leb, lt-leb}}
 use native.Mathlib.Nat.{mul-le-mul}
-use Rattle.name_tests.proofs.{Odds.{counted, odds, odds-stored, counted_next, odds-next, counted_end, odds_end, some_bound}, well_stored.Statement.statement}
+use Rattle.name_tests.proofs.{Odds.{counted, odds, odds_stored, counted_next, odds_next, counted_end, odds_end, some_bound}, well_stored.Statement.statement}
 use Rattle.name_tests.proofs.well_stored.Tie as tie
 
 abbrev invariant-loop : tie.invariant-loop
@@ -41,7 +41,7 @@ loop-again c =
       omega (arith, c.before.if_some.ensures, some_bound u 1),
       omega (arith, c.if-some2.ensures, some_bound u (2 * l.loop.i + 1)),
       omega (arith, c.before.if_some.ensures, counted_next n l.loop.i (omega arith)),
-      omega (arith, c.if-some2.ensures, odds-next n l.loop.i (omega arith)),
+      omega (arith, c.if-some2.ensures, odds_next n l.loop.i (omega arith)),
     )
 
 mul-result : tie.Need-overflow-mul-result invariant-loop decreases-loop
@@ -55,7 +55,7 @@ returns-2 c =
     let n = l.before.before.before.args.name.now in
     let k : counted n ≡ l.loop.count = omega (arith, counted_end n l.loop.i (omega arith)) in
     let s : odds 0 n ≡ l.loop.sum = omega (arith, odds_end n l.loop.i (omega arith)) in
-    rw (← k, ← s, le-leb (length n) file_name_limit (omega arith)) (odds-stored n)
+    rw (← k, ← s, le-leb (length n) file_name_limit (omega arith)) (odds_stored n)
 
 pub well_stored_spec : {M : Type 1} → statement M
 well_stored_spec =

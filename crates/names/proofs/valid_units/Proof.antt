@@ -1,6 +1,6 @@
 -- `names::valid_units` meets its contract, for every kind and limit. The loop's invariant: the answer is that for the units left.
-use Rattle.base.{specs.Base.{◌-◌, ◌≡◌, length, drop, all}, proofs.Laws.{sym, ◌∙◌, arith, needs, not-true, not-false, all_fails, all-next, all_end}}
-use Rattle.names.proofs.{ValidNames.{units-long, units-short}, valid_units.Statement.statement}
+use Rattle.base.{specs.Base.{◌-◌, ◌≡◌, length, drop, all}, proofs.Laws.{sym, ◌∙◌, arith, needs, not-true, not-false, all_fails, all_next, all_end}}
+use Rattle.names.proofs.{ValidNames.{units-long, units_short}, valid_units.Statement.statement}
 use Rattle.names.specs.Names.{valid_unit, valid_units}
 use Rattle.names.proofs.valid_units.Tie as tie
 
@@ -18,7 +18,7 @@ returns c =
 loop-holds : tie.Need-loop-init invariant-loop decreases-loop
 loop-holds c =
     let s = c.before.before.args in
-    units-short s.kind s.limit s.name.now c.if1.false
+    units_short s.kind s.limit s.name.now c.if1.false
 
 returns-2 : tie.Need-returns-2 invariant-loop decreases-loop
 returns-2 c =
@@ -33,7 +33,7 @@ loop-again c =
     let l = c.before.before.before.before in
     let s = l.before.before.before.args in
     l.loop.invariant
-    ∙ all-next (valid_unit s.kind) s.name.now l.loop.i 0 (omega arith) (sym c.before.valid-unit.ensures ∙ not-false _ c.if2.false)
+    ∙ all_next (valid_unit s.kind) s.name.now l.loop.i 0 (omega arith) (sym c.before.valid-unit.ensures ∙ not-false _ c.if2.false)
 
 returns-3 : tie.Need-returns-3 invariant-loop decreases-loop
 returns-3 c =

@@ -45,7 +45,7 @@ use Rattle.open_table.proofs.OpenSlot.TheLaws as O'
 use Rattle.open_table.specs.Rows.{row_slot}
 use Rattle.open_rows.specs.declared.Sought.{Sought}
 use Rattle.open_rows.specs.Search.{is_sought}
-use Rattle.open_rows.proofs.{Row.{R, vals, tells}, Lend.{rows_ty, rows-makes, rows-typed, laid, freed}}
+use Rattle.open_rows.proofs.{Row.{R, vals, tells}, Lend.{rows_ty, rows_makes, rows_typed, laid, freed}}
 use Rattle.open_rows.specs.contracts.Sought as S
 use Rattle.open_rows.proofs.Sought.TheLaws as S'
 use Rattle.open_rows.specs.contracts.first_row as search
@@ -90,7 +90,7 @@ module _ {M : Type 1} {𝓤 : Ura M} (𝓛 : Logic 𝓤) (mem : Memory → SProp
         qed 𝓛 (‵ ((O.the_row).own_val r (u ∷ [])) ∷ []) ∵
         suffices ! _ (ends_at 𝓛 f.ended stayed (f.clauses 𝓛 mem run) ((tt, tt, tt, (ys, (s, tt)), (av ∷ [], (sv ∷ [], tt))), tt) u r (tt, (tt, tt)) (tt, (tt, tt))) $ says ! e $
         nothing ! $ owned ! S.the_row (Is S.the_row) (EL.makes S.the_type S'.the_plain 𝓛) s (sv ∷ []) gs $ fjoin ! $
-        owned ! (Array R open_slots) (Is (Array R open_slots)) (rows-makes 𝓛 open_slots) ys (av ∷ []) ga $ fjoin ! $ nothing ! $ done !
+        owned ! (Array R open_slots) (Is (Array R open_slots)) (rows_makes 𝓛 open_slots) ys (av ∷ []) ga $ fjoin ! $ nothing ! $ done !
 
     module _ (α l₃ : ℕ) (γ : GName) where
       -- the row that is lent, what the callee is passed, and what it answers
@@ -164,7 +164,7 @@ module _ {M : Type 1} {𝓤 : Ura M} (𝓛 : Logic 𝓤) (mem : Memory → SProp
   found_in_walks known = walked 𝓛 f.ended stayed (f.clauses 𝓛 mem run) (WpFn 𝓤 H 𝓣.C 𝓣.Λ code.function) (λ κs. (array_vals vals, (EL.vals S.the_type S'.the_laws, tt))) (λ κs. (Array-Tells R vals tells open_slots, (EL.tells S.the_type S'.the_laws, tt)))
       (λ κs qs bounds a _ are. via 𝓤 (emp 𝓤) (qed 𝓛 (raw _ ∷ []) ∵ keep ! [] $ done !)
       (walk 𝓛 mem run a.0 a.1.0 (only (array_vals vals a.0)) (EL.val S.the_type S'.the_laws a.1.0) are.0 are.1.0 𝓣.C 𝓣.Λ (fm_of 𝓤 H 𝓛.laws 𝓣) known
-      (rows-typed 𝓛 open_slots a.0 _ are.0) ((EL.lawful S.the_type S'.the_laws 𝓛 tt).typed a.1.0 _ are.1.0).0))
+      (rows_typed 𝓛 open_slots a.0 _ are.0) ((EL.lawful S.the_type S'.the_laws 𝓛 tt).typed a.1.0 _ are.1.0).0))
 
   goes : AllGo 𝓛 0 (f.signature).params (f.ended).kept stayed
   goes = (Goes-none 𝓛 0 (λ _. Array R open_slots) yes (λ κs x f. refl), (Goes-none 𝓛 0 (λ _. S.the_row) yes (λ κs x f. refl), tt))

@@ -44,7 +44,7 @@ use denote.Triple.Spec.{Meets, triple_of}
 use denote.Triple.Table.{entered, cited}
 use denote.Triple.Walked.{says, Stays, stay_none, walk_of, AllGo, Goes-none, Walks, ends_at, walked, walk_Meets}
 use denote.Exit.{yes}
-use Rattle.open_rows.proofs.{Row.{R, open_ty, vals, val, tells, makes, typed}, Lend.{rows_ty, rows-makes, rows-typed, laid, freed}}
+use Rattle.open_rows.proofs.{Row.{R, open_ty, vals, val, tells, makes, typed}, Lend.{rows_ty, rows_makes, rows_typed, laid, freed}}
 use Rattle.open_rows.specs.contracts.store_at as store
 use Rattle.open_rows.proofs.store_at.Symbol as store-def
 use Rattle.open_rows.proofs.store_at.Symbol.{name as #store-at}
@@ -117,7 +117,7 @@ module _ {M : Type 1} {𝓤 : Ura M} (𝓛 : Logic 𝓤) (at_mem : Memory → SP
         qed 𝓛 (‵ (R.own_val r (u ∷ [])) ∷ []) ∵
         suffices ! _ (ends_at 𝓛 f.ended stayed (f.clauses 𝓛 at_mem run) ((tt, tt, tt, (ys, (i, (d, tt))), at), tt) u r (tt, (tt, (tt, tt))) (tt, (tt, (tt, tt)))) $ says ! e $
         nothing ! $ owned ! R (Is R) (makes 𝓛) d (vals d) gd $ fjoin ! $ owned ! usize (Is usize) (uint_Makes 𝓛 w64) i (vint w64 i ∷ []) (refl, gi) $ fjoin ! $
-        owned ! (Array R open_slots) (Is (Array R open_slots)) (rows-makes 𝓛 open_slots) ys (av ∷ []) ga $ fjoin ! $ nothing ! $ done !
+        owned ! (Array R open_slots) (Is (Array R open_slots)) (rows_makes 𝓛 open_slots) ys (av ∷ []) ga $ fjoin ! $ nothing ! $ done !
 
     module _ (α l₄ : ℕ) (γ : GName) where
       -- the row that is lent at a list, and what each callee is passed
@@ -135,8 +135,8 @@ module _ {M : Type 1} {𝓤 : Ura M} (𝓛 : Logic 𝓤) (at_mem : Memory → SP
       abbrev to_read : (OpenAt 𝓛 at_mem run).Ghost
       to_read = (((α ∷ [], tt), (full_share, tt), tt, (lent zs, (i, (d, tt))), (slice_val (l₄, 0) (length zs) ∷ [], (vint w64 i ∷ [], (vals d, tt)))), tt)
 
-      asked-read : ent 𝓤 (sep 𝓤 (A.lft (α ∷ []) full_share) (sem 𝓛 ((ShrSlice (named 0) (α ∷ []) R).own_val (lent zs) (slice_val (l₄, 0) (length zs) ∷ [])))) ((OpenAt 𝓛 at_mem run).pre to_read)
-      asked-read = qed 𝓛 (‵ (flft (α ∷ []) full_share) ∷ ‵ ((ShrSlice (named 0) (α ∷ []) R).own_val (lent zs) (slice_val (l₄, 0) (length zs) ∷ [])) ∷ []) ∵
+      asked_read : ent 𝓤 (sep 𝓤 (A.lft (α ∷ []) full_share) (sem 𝓛 ((ShrSlice (named 0) (α ∷ []) R).own_val (lent zs) (slice_val (l₄, 0) (length zs) ∷ [])))) ((OpenAt 𝓛 at_mem run).pre to_read)
+      asked_read = qed 𝓛 (‵ (flft (α ∷ []) full_share) ∷ ‵ ((ShrSlice (named 0) (α ∷ []) R).own_val (lent zs) (slice_val (l₄, 0) (length zs) ∷ [])) ∷ []) ∵
           nothing ! $ move ! (1 ∷ 0 ∷ []) $ join ! $ nothing ! $ owned ! R (Is R) (makes 𝓛) d (vals d) gd $ fjoin ! $
           owned ! usize (Is usize) (uint_Makes 𝓛 w64) i (vint w64 i ∷ []) (refl, gi) $ fjoin ! $ move ! (2 ∷ 0 ∷ []) $ fjoin ! $ move ! (1 ∷ 0 ∷ []) $ join ! $ frame ! $ done !
 
@@ -164,7 +164,7 @@ module _ {M : Type 1} {𝓤 : Ura M} (𝓛 : Logic 𝓤) (at_mem : Memory → SP
           use1 𝓛 (later (some (λ (γ : GName). ‵ ((ShrSlice (named 0) (α ∷ []) R).own_val (lent α l₄ γ zs) (slice_val (l₄, 0) (length zs) ∷ [])) ⊛ ‵ (flent (α ∷ []) ((arr_parts (shares R) (length zs)).part full_share zs l₄ 0)))))
           (lends_shr_slice 𝓛 R (named 0) (α ∷ []) full_share zs l₄ 0 fits) $ await ! tt $ pick ! (λ γ. split ! $ move ! (2 ∷ 0 ∷ []) $
           -- [the token; what the row owns; the lender's part; _9; …; _8; …; …]
-          use2 𝓛 (raw ((OpenAt 𝓛 at_mem run).pre (to_read α l₄ γ))) (asked-read α l₄ γ) $
+          use2 𝓛 (raw ((OpenAt 𝓛 at_mem run).pre (to_read α l₄ γ))) (asked_read α l₄ γ) $
           calls_at ! fm (OpenAt 𝓛 at_mem run) known_read (to_read α l₄ γ) (and_then ! (load ! (from ! (stop !)) (look ! 2 refl)) (and_then ! (load ! (from ! (stop !)) (look ! 15 refl)) (and_then ! (load ! (from ! (stop !)) (look ! 13 refl)) (no_more !)))) (λ u.
           use1 𝓛 (later (some (λ (r : Open). ((‵ (flft (α ∷ []) full_share) ⊛ ‵ ftrue) ⊛ ‵ (R.own_val r (u ∷ []))) ⊛ raw (ensured 𝓛 read.ended (read.clauses 𝓛 at_mem run) (α ∷ [], tt) (lent α l₄ γ zs, (i, (d, tt))) tt r)))) (id⊢ 𝓤 _) $
           await ! tt $ pick ! (λ r. split ! $ move ! (1 ∷ []) $ use1 𝓛 (raw (fact 𝓤 (r ≡ get_or zs i d))) (said α l₄ γ r) $ heard ! (r ≡ get_or zs i d) (λ e. split ! $ move ! (1 ∷ []) $
@@ -226,7 +226,7 @@ module _ {M : Type 1} {𝓤 : Ura M} (𝓛 : Logic 𝓤) (at_mem : Memory → SP
   stored_in_walks known_store known_read = walked 𝓛 f.ended stayed (f.clauses 𝓛 at_mem run) (WpFn 𝓤 H 𝓣.C 𝓣.Λ code.function) (λ κs. (array_vals vals, (uint_vals w64, (vals, tt)))) (λ κs. (Array-Tells R vals tells open_slots, (uint_Tells w64, (tells, tt))))
       (λ κs qs bounds a _ are. via 𝓤 (emp 𝓤) (qed 𝓛 (raw _ ∷ []) ∵ keep ! [] $ done !)
       (walk 𝓛 at_mem run a.0 a.1.0 a.1.1.0 (only (array_vals vals a.0)) are.0 are.1.0.1 are.1.1.0 𝓣.C 𝓣.Λ (fm_of 𝓤 H 𝓛.laws 𝓣) known_store known_read
-      (rows-typed 𝓛 open_slots a.0 _ are.0)))
+      (rows_typed 𝓛 open_slots a.0 _ are.0)))
 
   goes : AllGo 𝓛 0 (f.signature).params (f.ended).kept stayed
   goes = (Goes-none 𝓛 0 (λ _. Array R open_slots) yes (λ κs x f. refl), (Goes-none 𝓛 0 (λ _. usize) yes (λ κs x f. refl), (Goes-none 𝓛 0 (λ _. R) yes (λ κs x f. refl), tt)))

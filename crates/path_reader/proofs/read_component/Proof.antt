@@ -105,8 +105,8 @@ module _ {M : Type 1} {𝓤 : Ura M} (𝓛 : Logic 𝓤) (mem : Memory → SProp
   abbrev to_next : PathReader → (Next 𝓛 mem run).Ghost
   to_next r = (((κ, tt), (q, tt), tt, (r, tt), (T'.lowered r ∷ [], tt)), tt)
 
-  goes-next : (r : PathReader) → ent 𝓤 (⋆ 𝓛 (‵ (Held κ r) ∷ (‵ (flft κ q) ⊛ ‵ ftrue) ∷ [])) ((Next 𝓛 mem run).pre (to_next r))
-  goes-next r = qed 𝓛 (‵ (Held κ r) ∷ (‵ (flft κ q) ⊛ ‵ ftrue) ∷ []) ∵ nothing ! $ move ! (1 ∷ 0 ∷ []) $ fjoin ! $ move ! (1 ∷ 0 ∷ []) $ join ! $ frame ! $ done !
+  goes_next : (r : PathReader) → ent 𝓤 (⋆ 𝓛 (‵ (Held κ r) ∷ (‵ (flft κ q) ⊛ ‵ ftrue) ∷ [])) ((Next 𝓛 mem run).pre (to_next r))
+  goes_next r = qed 𝓛 (‵ (Held κ r) ∷ (‵ (flft κ q) ⊛ ‵ ftrue) ∷ []) ∵ nothing ! $ move ! (1 ∷ 0 ∷ []) $ fjoin ! $ move ! (1 ∷ 0 ∷ []) $ join ! $ frame ! $ done !
 
   -- of what the step owns, what its component owns is the result's
   exits : (t : Step) → t.component ≡ next_component s.now n → ent 𝓤 (⋆ 𝓛 (‵ (StepRow.own_val t (S'.lowered t ∷ [])) ∷ (‵ (flft κ q) ⊛ ‵ ftrue) ∷ ‵ (Owned κ s n) ∷ [])) (Post (P'.lowered t.component))
@@ -127,7 +127,7 @@ module _ {M : Type 1} {𝓤 : Ura M} (𝓛 : Logic 𝓤) (mem : Memory → SProp
         answered ! (Reader (κ, tt)) (T'.lowers α) (lasts reader_at.ended (κ, tt) (s, (n, tt))) (λ r. r ≡ reader_at s n) (λ r e is.
         -- [what the reader owns; the token; what the parameters own; room for _4; …; room for _3; …; _2; …; _1; …; room for _0; …]
         land ! (from ! (stop !)) (init ! 3 refl ((LL.lawful (T.the_type αᵉ) (T'.the_laws αᵉ) 𝓛).typed r _ is).0) $
-        use2 𝓛 (raw ((Next 𝓛 mem run).pre (to_next r))) (goes-next r) $
+        use2 𝓛 (raw ((Next 𝓛 mem run).pre (to_next r))) (goes_next r) $
         calls_at ! fm (Next 𝓛 mem run) known_next (to_next r) (and_then ! (load ! (from ! (stop !)) (look ! 2 refl)) (no_more !)) (
         answered ! StepRow (S'.lowers α) (lasts next.ended (κ, tt) (r, tt)) (λ t. t ≡ step_of r) (λ t e' is'.
         -- [what the step owns; the token; what the parameters own; _4; …; room for _3; …; _2; …; _1; …; room for _0; …]

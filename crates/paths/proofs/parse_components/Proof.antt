@@ -2,9 +2,9 @@
 -- is what is left of the path after it.
 use Rattle.base.{specs.Base.{◌-◌, ◌≡◌, length, file_name_limit}, proofs.Laws.{sym, ap, subst, ◌∙◌, arith, needs, not-true, not-false}}
 use mathlib.Core.Path.{subst⁻¹}
-use Rattle.components.{specs.{Positions.{part_of, next_component}, declared.Part.Part}, proofs.Places.{next_order, next-within}}
+use Rattle.components.{specs.{Positions.{part_of, next_component}, declared.Part.Part}, proofs.Places.{next_order, next_within}}
 use Rattle.names.specs.Names.{valid_file_name}
-use Rattle.paths.proofs.{Walk.{At, first-none, at_first, at_next, at-bad, at_last}, parse_components.Statement.statement}
+use Rattle.paths.proofs.{Walk.{At, first_none, at_first, at_next, at_bad, at_last}, parse_components.Statement.statement}
 use Rattle.paths.specs.Positions.{as_path}
 use Rattle.paths.proofs.parse_components.Tie as tie
 
@@ -23,7 +23,7 @@ returns c =
     let n = c.before.before in
     let s = n.before.before.args in
     record {
-      is = first-none s.wants-directory s.path.now (subst Empty n.next-component.ensures c.if1.true);
+      is = first_none s.wants-directory s.path.now (subst Empty n.next-component.ensures c.if1.true);
       places = tt;
     }
 
@@ -69,7 +69,7 @@ returns-3 c =
     let v = c.before in
     let s = (start v).args in
     record {
-      is = at-bad s.wants-directory s.path.now (loop v).loop.part (loop v).loop.invariant (more v) (judged v ∙ not-true _ c.if3.true);
+      is = at_bad s.wants-directory s.path.now (loop v).loop.part (loop v).loop.invariant (more v) (judged v ∙ not-true _ c.if3.true);
       places = tt;
     }
 
@@ -78,7 +78,7 @@ loop-less c =
     let v = c.before in
     let p = (start v).args.path.now in
     let e = (loop v).loop.part.end in
-    omega (arith, more v, next_order p e, next-within p e (more v), ap (λ (q : Part). q.end) (next v).next-component2.ensures)
+    omega (arith, more v, next_order p e, next_within p e (more v), ap (λ (q : Part). q.end) (next v).next-component2.ensures)
 
 loop-again : tie.Need-loop-preserved invariant-loop decreases-loop
 loop-again c =

@@ -2,15 +2,15 @@
 use Rattle.base.{specs.Base.{◌≡◌, true}, proofs.Laws.{sym, ◌∙◌, needs}}
 use Rattle.components.{specs.Positions.part_of, proofs.Places.{Searched, past}}
 use Rattle.units.specs.Units.{colon, data_type, equal_units}
-use Rattle.paths.proofs.{Parsing.{stream-typed, stream_untyped, stream_empty, stream_only}, stream_parts.Statement.statement}
+use Rattle.paths.proofs.{Parsing.{stream_typed, stream_untyped, stream_empty, stream_only}, stream_parts.Statement.statement}
 use Rattle.paths.proofs.stream_parts.Tie as tie
 
 module _ (c : tie.After-find-sign) where
   abbrev start : tie.Start
   start = c.before.before.before
 
-  searched : Searched colon start.args.path.now start.args.rest c.before.units-before.result.now c.find-sign.result
-  searched = record { before = c.before.units-before.ensures; found = c.find-sign.ensures }
+  searched : Searched colon start.args.path.now start.args.rest c.before.units_before.result.now c.find-sign.result
+  searched = record { before = c.before.units_before.ensures; found = c.find-sign.ensures }
 
 -- what is found after the second colon
 typed : (c : tie.After-is-data-type) → let f = c.before.before.before in equal_units true (part_of (start f).args.path.now (past (start f).args.rest f.find-sign.result)) data_type ≡ c.is-data-type.result
@@ -19,7 +19,7 @@ typed c = rw (← c.before.part_of_lem.ensures) (sym c.is-data-type.ensures)
 returns : tie.Need-returns
 returns c =
     let f = c.before.before.before.before in
-    stream-typed (searched f) (start f).args.file c.before.before.before.if1.true (typed c.before ∙ c.if2.true)
+    stream_typed (searched f) (start f).args.file c.before.before.before.if1.true (typed c.before ∙ c.if2.true)
 
 returns-2 : tie.Need-returns-2
 returns-2 c =

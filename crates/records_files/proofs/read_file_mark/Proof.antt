@@ -1,7 +1,7 @@
 -- `records_files::read_file_mark` meets its contract: the mark stands last.
 use Rattle.base.{proofs.Laws.{needs, ap, sym, ◌∙◌, arith}, specs.Base.File}
 use Rattle.codecs.proofs.Fields.{inner}
-use Rattle.layout.proofs.{Fields.{file-field, file_mark_in_lem}, InPlace.{in_place, file-past}, Tests.mark_test}
+use Rattle.layout.proofs.{Fields.{file-field, file_mark_in_lem}, InPlace.{in_place, file_past}, Tests.mark_test}
 use Rattle.tables.specs.Tables.{file_at}
 use Rattle.records_files.proofs.read_file_mark.Statement.{statement}
 use Rattle.records_files.proofs.read_file_mark.Tie as tie
@@ -17,7 +17,7 @@ returns-2 : tie.Need-returns-2
 unfolding file_at
 returns-2 c =
     let a = c.before.before.before.args in
-    sym (ap (λ (f : File). f.delete_pending) (file-past a.b.now a.n.0 (omega arith)))
+    sym (ap (λ (f : File). f.delete_pending) (file_past a.b.now a.n.0 (omega arith)))
 
 pub read_file_mark_spec : {M : Type 1} → statement M
 read_file_mark_spec =

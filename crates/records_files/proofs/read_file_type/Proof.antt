@@ -1,7 +1,7 @@
 -- `records_files::read_file_type` meets its contract: the kind stands first.
 use Rattle.base.{proofs.Laws.{needs, ap, sym, arith}, specs.Base.File}
 use Rattle.codecs.proofs.Fields.{inner_first}
-use Rattle.layout.proofs.{Fields.{file-field, file_type_in}, InPlace.{in_place, file-past}}
+use Rattle.layout.proofs.{Fields.{file-field, file_type_in}, InPlace.{in_place, file_past}}
 use Rattle.tables.specs.Tables.{file_at}
 use Rattle.records_files.proofs.read_file_type.Statement.{statement}
 use Rattle.records_files.proofs.read_file_type.Tie as tie
@@ -16,7 +16,7 @@ returns-2 : tie.Need-returns-2
 unfolding file_at
 returns-2 c =
     let a = c.before.before.before.args in
-    sym (ap (λ (f : File). f.file_type) (file-past a.b.now a.n.0 (omega arith)))
+    sym (ap (λ (f : File). f.file_type) (file_past a.b.now a.n.0 (omega arith)))
 
 pub read_file_type_spec : {M : Type 1} → statement M
 read_file_type_spec =

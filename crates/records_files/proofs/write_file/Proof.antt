@@ -1,6 +1,6 @@
 -- `records_files::write_file` meets its contract: what is written at the number's place is put into the table.
 use Rattle.base.proofs.Laws.{needs, arith}
-use Rattle.layout.proofs.{Fields.file-field, InPlace.{changed, file_out}, Records.file_lawful, Typed.file-fits}
+use Rattle.layout.proofs.{Fields.file-field, InPlace.{changed, file_out}, Records.file_lawful, Typed.file_fits}
 use Rattle.records_files.proofs.write_file.Statement.{statement}
 use Rattle.records_files.proofs.write_file.Tie as tie
 
@@ -8,7 +8,7 @@ returns : tie.Need-returns
 returns c =
     let s = c.before.before.before.before.before.before.before in
     let a = s.args in
-    changed (file-field a.n.0 (omega arith)) a.b.now (omega arith) file_lawful a.f (file-fits a.f _ s.well-formed.1.1.0)
+    changed (file-field a.n.0 (omega arith)) a.b.now (omega arith) file_lawful a.f (file_fits a.f _ s.well_formed_lem.1.1.0)
     c.before.before.put-file.ensures
 
 returns-2 : tie.Need-returns-2

@@ -1,6 +1,6 @@
 -- `records_links::link_from` meets its contract: each field is read where the record has it.
 use Rattle.base.proofs.Laws.{needs}
-use Rattle.layout.proofs.Parts.{link-parts}
+use Rattle.layout.proofs.Parts.{link_parts}
 use Rattle.records_links.proofs.link_from.Statement.{statement}
 use Rattle.records_links.proofs.link_from.Tie as tie
 
@@ -8,7 +8,7 @@ returns : tie.Need-returns
 returns c =
     let a = c.before.before.before.before.before.before.args in
     rw (
-      link-parts a.b.now a.at,
+      link_parts a.b.now a.at,
       c.before.read-units.ensures,
       c.before.before.before.read-u162.ensures,
       c.before.before.before.before.read-u16.ensures,

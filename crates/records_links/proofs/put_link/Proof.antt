@@ -8,7 +8,7 @@ use Rattle.records_links.proofs.put_link.Tie as tie
 write-units-requires : tie.Need-write-units-requires
 write-units-requires c κs =
     let start = c.before.before.before.before.before.before.before.before.before.before.before.before in
-    let n = link_name_length start.args.l _ start.well-formed.1.1.0 in
+    let n = link_name_length start.args.l _ start.well_formed_lem.1.1.0 in
     omega arith
 
 returns : tie.Need-returns

@@ -1,6 +1,6 @@
 -- `records_links::write_link` meets its contract: what is written at the number's place is put into the table.
 use Rattle.base.proofs.Laws.{needs, arith}
-use Rattle.layout.proofs.{Fields.link-field, InPlace.{changed, link_out}, Records.link_lawful, Typed.link_fits}
+use Rattle.layout.proofs.{Fields.link_field, InPlace.{changed, link_out}, Records.link_lawful, Typed.link_fits}
 use Rattle.records_links.proofs.write_link.Statement.{statement}
 use Rattle.records_links.proofs.write_link.Tie as tie
 
@@ -8,7 +8,7 @@ returns : tie.Need-returns
 returns c =
     let s = c.before.before.before.before.before.before.before in
     let a = s.args in
-    changed (link-field a.n.0 (omega arith)) a.b.now (omega arith) link_lawful a.l (link_fits a.l _ s.well-formed.1.1.0)
+    changed (link_field a.n.0 (omega arith)) a.b.now (omega arith) link_lawful a.l (link_fits a.l _ s.well_formed_lem.1.1.0)
     c.before.before.put-link.ensures
 
 returns-2 : tie.Need-returns-2

@@ -8,7 +8,7 @@ returns : tie.Need-returns
 returns c =
     let s = c.before.before.before.before.before.before in
     let a = s.args in
-    changed (open_field a.n (omega arith)) a.b.now (omega arith) open_lawful a.o (open_fits a.o _ s.well-formed.1.1.0)
+    changed (open_field a.n (omega arith)) a.b.now (omega arith) open_lawful a.o (open_fits a.o _ s.well_formed_lem.1.1.0)
     c.before.before.put-open.ensures
 
 returns-2 : tie.Need-returns-2

@@ -1,7 +1,7 @@
 -- `records_streams::put_stream` meets its contract: the fields are written side by side.
 use Rattle.base.{specs.Base.{ℕ, ◌+◌, ◌≡◌, List, ◌++◌, ShareCounts}, proofs.Laws.{needs, sym, ◌∙◌, ap, subst, arith}}
-use Rattle.codecs.proofs.Rows.{row-after}
-use Rattle.layout.{specs.{Fits.CountsFit, Records.counts_codec}, proofs.{Records.counts_lawful, Typed.stream-fits}}
+use Rattle.codecs.proofs.Rows.{row_after}
+use Rattle.layout.{specs.{Fits.CountsFit, Records.counts_codec}, proofs.{Records.counts_lawful, Typed.stream_fits}}
 use Rattle.little_endian.{specs.Writes.Wrote, proofs.{Numbers.after, Parts.then}}
 use Rattle.records.proofs.Lengths.{stream_name_length}
 use Rattle.records_streams.proofs.put_stream.Statement.{statement}
@@ -16,7 +16,7 @@ counts-after {m = m} {o = o} {ys = ys} {at = at} {at' = at'} c h e a b =
 write-units-requires : tie.Need-write-units-requires
 write-units-requires c κs =
     let start = c.before.before.before.before.before.before.before.before.before.before.before.before.before.before in
-    let n = stream_name_length start.args.s _ start.well-formed.1.1.0 in
+    let n = stream_name_length start.args.s _ start.well_formed_lem.1.1.0 in
     omega arith
 
 returns : tie.Need-returns
@@ -27,11 +27,11 @@ returns c =
     let file = name.before.before.before.before.before in
     let kind = file.before.before.before.before in
     let start = kind.before.before.before.before.before.before in
-    let n = stream_name_length start.args.s _ start.well-formed.1.1.0 in
-    let fits = stream-fits start.args.s _ start.well-formed.1.1.0 in
-    after 2 _ (omega arith) (rw kind.before.kind-number.ensures at kind.write-u16.ensures)
+    let n = stream_name_length start.args.s _ start.well_formed_lem.1.1.0 in
+    let fits = stream_fits start.args.s _ start.well_formed_lem.1.1.0 in
+    after 2 _ (omega arith) (rw kind.before.kind_number_lem.ensures at kind.write-u16.ensures)
     (after 2 _ (omega arith) file.write-u162.ensures
-    (row-after 2 start.args.s.name (omega arith) name.write-units.ensures
+    (row_after 2 start.args.s.name (omega arith) name.write-units.ensures
     (counts-after start.args.s.counts fits.counts (omega arith) counts.put-counts.ensures
     (rw mark.before.mark_number_lem.ensures at mark.write-u163.ensures))))
 

@@ -1,6 +1,6 @@
 -- `records_streams::read_stream` meets its contract: the record at the number's place is that of the table.
 use Rattle.base.proofs.Laws.{needs, sym, ◌∙◌, arith}
-use Rattle.layout.proofs.{Fields.stream-field, InPlace.{in_place, stream-past}}
+use Rattle.layout.proofs.{Fields.stream-field, InPlace.{in_place, stream_past}}
 use Rattle.tables.specs.Tables.{stream_at}
 use Rattle.records_streams.proofs.read_stream.Statement.{statement}
 use Rattle.records_streams.proofs.read_stream.Tie as tie
@@ -15,7 +15,7 @@ returns-2 : tie.Need-returns-2
 unfolding stream_at
 returns-2 c =
     let a = c.before.before.before.args in
-    sym (stream-past a.b.now a.n.0 (omega arith))
+    sym (stream_past a.b.now a.n.0 (omega arith))
 
 pub read_stream_spec : {M : Type 1} → statement M
 read_stream_spec =

@@ -1,7 +1,7 @@
 -- `records_streams::read_stream_file` meets its contract: the file stands after the kind.
 use Rattle.base.{proofs.Laws.{needs, ap, sym, arith}, specs.Base.Stream}
 use Rattle.codecs.proofs.Fields.{inner}
-use Rattle.layout.proofs.{Fields.{stream-field, stream_file_in}, InPlace.{in_place, stream-past}}
+use Rattle.layout.proofs.{Fields.{stream-field, stream_file_in}, InPlace.{in_place, stream_past}}
 use Rattle.tables.specs.Tables.{stream_at}
 use Rattle.records_streams.proofs.read_stream_file.Statement.{statement}
 use Rattle.records_streams.proofs.read_stream_file.Tie as tie
@@ -16,7 +16,7 @@ returns-2 : tie.Need-returns-2
 unfolding stream_at
 returns-2 c =
     let a = c.before.before.before.args in
-    sym (ap (λ (s : Stream). s.file) (stream-past a.b.now a.n.0 (omega arith)))
+    sym (ap (λ (s : Stream). s.file) (stream_past a.b.now a.n.0 (omega arith)))
 
 pub read_stream_file_spec : {M : Type 1} → statement M
 read_stream_file_spec =

@@ -1,7 +1,7 @@
 -- `records_streams::read_stream_mark` meets its contract: the mark stands last.
 use Rattle.base.{proofs.Laws.{needs, ap, sym, ◌∙◌, arith}, specs.Base.Stream}
 use Rattle.codecs.proofs.Fields.{inner}
-use Rattle.layout.proofs.{Fields.{stream-field, stream_mark_in_lem}, InPlace.{in_place, stream-past}, Tests.mark_test}
+use Rattle.layout.proofs.{Fields.{stream-field, stream_mark_in_lem}, InPlace.{in_place, stream_past}, Tests.mark_test}
 use Rattle.tables.specs.Tables.{stream_at}
 use Rattle.records_streams.proofs.read_stream_mark.Statement.{statement}
 use Rattle.records_streams.proofs.read_stream_mark.Tie as tie
@@ -17,7 +17,7 @@ returns-2 : tie.Need-returns-2
 unfolding stream_at
 returns-2 c =
     let a = c.before.before.before.args in
-    sym (ap (λ (s : Stream). s.delete_pending) (stream-past a.b.now a.n.0 (omega arith)))
+    sym (ap (λ (s : Stream). s.delete_pending) (stream_past a.b.now a.n.0 (omega arith)))
 
 pub read_stream_mark_spec : {M : Type 1} → statement M
 read_stream_mark_spec =

@@ -1,6 +1,6 @@
 -- `records_streams::write_counts` meets its contract: what is written at the stream's end is put into the table.
 use Rattle.base.proofs.Laws.{needs, arith}
-use Rattle.layout.proofs.{Fields.counts-field, InPlace.{changed, counts_out}, Records.counts_lawful, Typed.counts-fit}
+use Rattle.layout.proofs.{Fields.counts-field, InPlace.{changed, counts_out}, Records.counts_lawful, Typed.counts_fit}
 use Rattle.records_streams.proofs.write_counts.Statement.{statement}
 use Rattle.records_streams.proofs.write_counts.Tie as tie
 
@@ -8,7 +8,7 @@ returns : tie.Need-returns
 returns c =
     let s = c.before.before.before.before.before.before.before in
     let a = s.args in
-    changed (counts-field a.n.0 (omega arith)) a.b.now (omega arith) counts_lawful a.c (counts-fit a.c _ s.well-formed.1.1.0)
+    changed (counts-field a.n.0 (omega arith)) a.b.now (omega arith) counts_lawful a.c (counts_fit a.c _ s.well_formed_lem.1.1.0)
     c.before.before.put-counts.ensures
 
 returns-2 : tie.Need-returns-2

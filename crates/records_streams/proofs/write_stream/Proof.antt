@@ -1,6 +1,6 @@
 -- `records_streams::write_stream` meets its contract: what is written at the number's place is put into the table.
 use Rattle.base.proofs.Laws.{needs, arith}
-use Rattle.layout.proofs.{Fields.stream-field, InPlace.{changed, stream_out}, Records.stream_lawful, Typed.stream-fits}
+use Rattle.layout.proofs.{Fields.stream-field, InPlace.{changed, stream_out}, Records.stream_lawful, Typed.stream_fits}
 use Rattle.records_streams.proofs.write_stream.Statement.{statement}
 use Rattle.records_streams.proofs.write_stream.Tie as tie
 
@@ -8,7 +8,7 @@ returns : tie.Need-returns
 returns c =
     let s = c.before.before.before.before.before.before.before in
     let a = s.args in
-    changed (stream-field a.n.0 (omega arith)) a.b.now (omega arith) stream_lawful a.s (stream-fits a.s _ s.well-formed.1.1.0)
+    changed (stream-field a.n.0 (omega arith)) a.b.now (omega arith) stream_lawful a.s (stream_fits a.s _ s.well_formed_lem.1.1.0)
     c.before.before.put-stream.ensures
 
 returns-2 : tie.Need-returns-2

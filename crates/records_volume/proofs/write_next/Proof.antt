@@ -8,7 +8,7 @@ returns : tie.Need-returns
 returns c =
     let s = c.before.before.before.before.before in
     let a = s.args in
-    changed next_field a.b.now (omega arith) handle_lawful a.h s.well-formed.1.0.1.1.0.1
+    changed next_field a.b.now (omega arith) handle_lawful a.h s.well_formed_lem.1.0.1.1.0.1
     c.before.before.write-u64.ensures
 
 pub write_next_spec : {M : Type 1} → statement M

@@ -1,5 +1,5 @@
 -- `script_lines::ascii_from` meets its contract. The invariant: the answer is that for the bytes left.
-use Rattle.base.{specs.Base.{◌-◌, ◌≡◌, length, drop, all}, proofs.Laws.{refl, sym, ◌∙◌, arith, needs, le-leb, lt-leb, all_fails, all-next, all_end}}
+use Rattle.base.{specs.Base.{◌-◌, ◌≡◌, length, drop, all}, proofs.Laws.{refl, sym, ◌∙◌, arith, needs, le-leb, lt-leb, all_fails, all_next, all_end}}
 use Rattle.script_lines.proofs.ascii_from.Statement.{statement}
 use Rattle.script_lines.specs.Lines.{is_ascii}
 use Rattle.script_lines.proofs.ascii_from.Tie as tie
@@ -22,7 +22,7 @@ unfolding is_ascii
 loop-again c =
     let l = c.before.before.before in
     let a = l.before.args in
-    l.loop.invariant ∙ all-next is_ascii a.line.now l.loop.at 0 (omega arith) (le-leb _ 0x7F c.if1.false)
+    l.loop.invariant ∙ all_next is_ascii a.line.now l.loop.at 0 (omega arith) (le-leb _ 0x7F c.if1.false)
 
 returns-2 : tie.Need-returns-2 invariant-loop decreases-loop
 returns-2 c =

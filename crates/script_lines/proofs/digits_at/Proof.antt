@@ -2,7 +2,7 @@
 -- digits of the value so far.
 use Rattle.base.{specs.Base.{◌-◌, ◌+◌, ◌*◌, ◌≤◌, ◌≡◌, true, length, drop, get_or}, proofs.Laws.{refl, sym, ◌∙◌, arith, needs, not-true, not-false}}
 use borrow.Author.Tests.{leb-true}
-use Rattle.script_lines.proofs.{Reading.{digit_low, digits_end, digits_stop, digits-over, digits-next}, digits_at.Statement.statement}
+use Rattle.script_lines.proofs.{Reading.{digit_low, digits_end, digits_stop, digits_over, digits_next}, digits_at.Statement.statement}
 use Rattle.script_lines.specs.{Lines.{is_digit, digits_from}, Found.as_number}
 use Rattle.script_lines.proofs.digits_at.Tie as tie
 
@@ -35,7 +35,7 @@ returns-2 c =
     let a = l.before.before.args in
     sym
     (l.loop.invariant
-    ∙ digits-over a.most l.loop.value a.line.now l.loop.at (omega arith) (is d) (sym c.before.fits2.ensures ∙ not-true _ c.if2.true))
+    ∙ digits_over a.most l.loop.value a.line.now l.loop.at (omega arith) (is d) (sym c.before.fits2.ensures ∙ not-true _ c.if2.true))
 
 -- the value with the digit is at most what is allowed
 room : (c : tie.Else2 invariant-loop decreases-loop) →
@@ -50,7 +50,7 @@ loop-again c =
     let l = d.before.before.before.before in
     let a = l.before.before.args in
     l.loop.invariant
-    ∙ digits-next a.most l.loop.value a.line.now l.loop.at (omega arith) (is d) (sym c.before.fits2.ensures ∙ not-false _ c.if2.false)
+    ∙ digits_next a.most l.loop.value a.line.now l.loop.at (omega arith) (is d) (sym c.before.fits2.ensures ∙ not-false _ c.if2.false)
 
 returns-3 : tie.Need-returns-3 invariant-loop decreases-loop
 unfolding as_number

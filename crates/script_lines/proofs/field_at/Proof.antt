@@ -1,6 +1,6 @@
 -- `script_lines::field_at` meets its contract.
 use Rattle.base.{specs.Base.{◌≡◌, some, drop}, proofs.Laws.{sym, ◌∙◌, ap, arith, needs}}
-use Rattle.script_lines.proofs.{Reading.{field-none, field_end, field-other, field_is, field_fits}, field_at.Statement.statement}
+use Rattle.script_lines.proofs.{Reading.{field_none, field_end, field_other, field_is, field_fits}, field_at.Statement.statement}
 use Rattle.script_lines.specs.{Lines.{most32, number}, Found.{field_at, as_number, as_field}}
 use Rattle.script_lines.proofs.field_at.Tie as tie
 
@@ -9,7 +9,7 @@ unfolding as_number as_field
 returns c =
     let n = c.before.before in
     let a = n.before.before.args in
-    sym (field-none a.line.now a.from (sym n.number_at.ensures ∙ ap (as_number a.line.now) c.enum_told.given.1))
+    sym (field_none a.line.now a.from (sym n.number_at.ensures ∙ ap (as_number a.line.now) c.enum_told.given.1))
 
 -- the number that is read
 read : (c : tie.After-found) →
@@ -33,7 +33,7 @@ unfolding as_field
 returns-3 c =
     let f = c.before.before.before.before in
     let a = f.before.before.before.before.args in
-    sym (field-other a.line.now a.from _ _ (read f) c.if2.true)
+    sym (field_other a.line.now a.from _ _ (read f) c.if2.true)
 
 cast-t10 : tie.Need-overflow-cast-t10
 cast-t10 c =

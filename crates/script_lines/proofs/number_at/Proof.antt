@@ -1,6 +1,6 @@
 -- `script_lines::number_at` meets its contract.
 use Rattle.base.proofs.Laws.{sym, ◌∙◌, needs}
-use Rattle.script_lines.proofs.{Reading.{number_end, number-other, number_is}, number_at.Statement.statement}
+use Rattle.script_lines.proofs.{Reading.{number_end, number_other, number_is}, number_at.Statement.statement}
 use Rattle.script_lines.specs.Found.{as_number}
 use Rattle.script_lines.proofs.number_at.Tie as tie
 
@@ -20,7 +20,7 @@ returns-3 : tie.Need-returns-3
 unfolding as_number
 returns-3 c =
     let a = c.before.before.before.before.before.args in
-    sym (number-other a.most a.line.now a.from (sym c.before.is_digit.ensures ∙ c.if2.false))
+    sym (number_other a.most a.line.now a.from (sym c.before.is_digit.ensures ∙ c.if2.false))
 
 pub number_at_spec : {M : Type 1} → statement M
 number_at_spec =

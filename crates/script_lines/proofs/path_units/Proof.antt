@@ -1,6 +1,6 @@
 -- `script_lines::path_units` meets its contract: a turn of the loop copies one byte more.
 use Rattle.base.{specs.Base.{◌-◌, ◌≤◌}, proofs.Laws.{refl, arith, ltb-true, ltb-false}}
-use Rattle.script_lines.proofs.{Units.{PathCopied, units-next, units_full, units-all}, path_units.Statement.statement}
+use Rattle.script_lines.proofs.{Units.{PathCopied, units_next, units_full, units-all}, path_units.Statement.statement}
 use Rattle.script_lines.specs.Lines.{line_limit}
 use Rattle.script_lines.proofs.path_units.Tie as tie
 
@@ -16,7 +16,7 @@ loop-holds c = (omega arith, record { long = refl; reached = omega arith; is = r
 loop-again : tie.Need-loop-preserved invariant-loop decreases-loop
 loop-again c =
     let l = c.before.before.before in
-    (omega arith, units-next l.loop.invariant.1 (omega arith) (ltb-true _ _ c.before.if1.true))
+    (omega arith, units_next l.loop.invariant.1 (omega arith) (ltb-true _ _ c.before.if1.true))
 
 returns : tie.Need-returns invariant-loop decreases-loop
 returns c =

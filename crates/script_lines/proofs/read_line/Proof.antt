@@ -1,6 +1,6 @@
 -- `script_lines::read_line` meets its contract.
 use Rattle.base.proofs.Laws.{sym, ◌∙◌, needs}
-use Rattle.script_lines.proofs.{Reading.{line_long, line_short, line_unspaced, line_command, command_open, command-close, command-other}, read_line.Statement.statement}
+use Rattle.script_lines.proofs.{Reading.{line_long, line_short, line_unspaced, line_command, command_open, command-close, command_other}, read_line.Statement.statement}
 use Rattle.script_lines.specs.Found.{as_call}
 use Rattle.script_lines.proofs.read_line.Tie as tie
 
@@ -41,7 +41,7 @@ returns-6 c =
     let e = s.before.before.before in
     let line = e.before.before.args.line.now in
     sym
-    (line_command line e.if1.false s.if3.false ∙ command-other _ _ c.match.rest.0.1 c.match.rest.1)
+    (line_command line e.if1.false s.if3.false ∙ command_other _ _ c.match.rest.0.1 c.match.rest.1)
 
 pub read_line_spec : {M : Type 1} → statement M
 read_line_spec =

@@ -1,10 +1,10 @@
 -- `settle::clear_links` meets its contract. The invariant: what is left to clear are the links from i on.
 use Rattle.base.{specs.Base.{ℕ, ◌+◌, ◌-◌, link_slots, zero_link, Tables, FileNo}, proofs.Laws.{sym, ◌∙◌, ap, ⊎_elim, arith, needs}}
 use Rattle.consistency.specs.Relations.{link_to}
-use Rattle.layout.{specs.Layout.decode, proofs.Lengths.links-count}
+use Rattle.layout.{specs.Layout.decode, proofs.Lengths.links_count}
 use Rattle.tables.specs.Tables.{link_at}
 use Rattle.settle.specs.Settled.{with_links, without_links}
-use Rattle.settle.proofs.{Cleared.{cleared_from, cleared-here, cleared-past, cleared_end, Underway, begins, goes_on, skips, ends}, clear_links.Statement.statement}
+use Rattle.settle.proofs.{Cleared.{cleared_from, cleared_here, cleared_past, cleared_end, Underway, begins, goes_on, skips, ends}, clear_links.Statement.statement}
 use Rattle.settle.proofs.clear_links.Tie as tie
 
 abbrev rest : FileNo → ℕ → Tables → Tables
@@ -28,25 +28,25 @@ loop-again c =
     let f = l.before.before.args.f in
     let t = decode l.loop.b in
     let i = l.loop.i in
-    let n = links-count l.loop.b in
+    let n = links_count l.loop.b in
     ⊎_elim
     (λ w.
     rw w.5
     (goes_on l.loop.invariant (rest f (i + 1)) w.2.ensures
     (ap (with_links t)
-    (cleared-here (link_to f) zero_link t.volume.links i zero_link (omega arith) (sym test.links-to.ensures ∙ w.0.taken)))))
+    (cleared_here (link_to f) zero_link t.volume.links i zero_link (omega arith) (sym test.links-to.ensures ∙ w.0.taken)))))
     (λ w.
     rw w.1
     (skips l.loop.invariant (rest f (i + 1))
     (ap (with_links t)
-    (cleared-past (link_to f) zero_link t.volume.links i zero_link (omega arith) (sym test.links-to.ensures ∙ w.0.left)))))
+    (cleared_past (link_to f) zero_link t.volume.links i zero_link (omega arith) (sym test.links-to.ensures ∙ w.0.left)))))
     c.if1.branch
 
 returns : tie.Need-returns invariant-loop decreases-loop
 returns c =
     let l = c.before in
     let t = decode l.loop.b in
-    let n = links-count l.loop.b in
+    let n = links_count l.loop.b in
     ends l.loop.invariant
     (ap (with_links t) (cleared_end (link_to l.before.before.args.f) zero_link t.volume.links l.loop.i (omega arith)))
 

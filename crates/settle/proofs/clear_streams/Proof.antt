@@ -1,10 +1,10 @@
 -- `settle::clear_streams` meets its contract. The invariant: what is left to clear are the streams from i on.
 use Rattle.base.{specs.Base.{ℕ, ◌+◌, ◌-◌, Bool, stream_slots, zero_stream, bare, Tables, FileNo, Stream}, proofs.Laws.{sym, ◌∙◌, ap, ⊎_elim, arith, needs}}
 use Rattle.consistency.specs.Relations.{stream_of}
-use Rattle.layout.{specs.Layout.decode, proofs.Lengths.streams-count}
+use Rattle.layout.{specs.Layout.decode, proofs.Lengths.streams_count}
 use Rattle.tables.specs.Tables.{stream_at}
 use Rattle.settle.specs.Settled.{with_streams, without_streams}
-use Rattle.settle.proofs.{Cleared.{cleared_from, cleared-here, cleared-past, cleared_end, Underway, begins, goes_on, skips, ends}, clear_streams.Statement.statement}
+use Rattle.settle.proofs.{Cleared.{cleared_from, cleared_here, cleared_past, cleared_end, Underway, begins, goes_on, skips, ends}, clear_streams.Statement.statement}
 use Rattle.settle.proofs.clear_streams.Tie as tie
 
 abbrev of : FileNo → Stream → Bool
@@ -31,25 +31,25 @@ loop-again c =
     let f = l.before.before.args.f in
     let t = decode l.loop.b in
     let i = l.loop.i in
-    let n = streams-count l.loop.b in
+    let n = streams_count l.loop.b in
     ⊎_elim
     (λ w.
     rw w.5
     (goes_on l.loop.invariant (rest f (i + 1)) w.2.ensures
     (ap (with_streams t)
-    (cleared-here (of f) zero_stream t.volume.streams i zero_stream (omega arith) (sym test.stream-of.ensures ∙ w.0.taken)))))
+    (cleared_here (of f) zero_stream t.volume.streams i zero_stream (omega arith) (sym test.stream-of.ensures ∙ w.0.taken)))))
     (λ w.
     rw w.1
     (skips l.loop.invariant (rest f (i + 1))
     (ap (with_streams t)
-    (cleared-past (of f) zero_stream t.volume.streams i zero_stream (omega arith) (sym test.stream-of.ensures ∙ w.0.left)))))
+    (cleared_past (of f) zero_stream t.volume.streams i zero_stream (omega arith) (sym test.stream-of.ensures ∙ w.0.left)))))
     c.if1.branch
 
 returns : tie.Need-returns invariant-loop decreases-loop
 returns c =
     let l = c.before in
     let t = decode l.loop.b in
-    let n = streams-count l.loop.b in
+    let n = streams_count l.loop.b in
     ends l.loop.invariant
     (ap (with_streams t) (cleared_end (of l.before.before.args.f) zero_stream t.volume.streams l.loop.i (omega arith)))
 

@@ -1,6 +1,6 @@
 -- `settle::of_named_stream` meets its contract: a name is empty exactly where its first place is zero.
 use Rattle.base.{specs.Base.{bare, namespace}, proofs.Laws.needs}
-use Rattle.consistency.proofs.Derived.{bare-at}
+use Rattle.consistency.proofs.Derived.{bare_at_lem}
 use Rattle.layout.specs.Layout.{decode}
 use Rattle.stored_names.proofs.StoredUnits.{units_empty}
 use Rattle.store.specs.Close.{of_named_stream}
@@ -13,7 +13,7 @@ returns c =
     let read = c.before.before.before in
     let a = read.before.before.args in
     rw (
-      bare-at (decode a.b.now).volume.streams a.o.stream,
+      bare_at_lem (decode a.b.now).volume.streams a.o.stream,
       ← read.read-stream.ensures,
       units_empty read.read-stream.result.name,
       ← c.unit-at.ensures,

@@ -1,6 +1,6 @@
 -- `settle::removes_stream` meets its contract: the opens are asked only where the stream is marked.
 use Rattle.base.{specs.Base.{◌≡◌, true, ◌||◌, bare, namespace}, proofs.Laws.{sym, ◌∙◌, ⊎_elim, needs, not-true, not-false, or_left, or_right}}
-use Rattle.consistency.proofs.Derived.{bare-at}
+use Rattle.consistency.proofs.Derived.{bare_at_lem}
 use Rattle.layout.specs.Layout.{decode}
 use Rattle.store.specs.{Close.removes_stream, Store.store_view}
 use Rattle.settle.proofs.removes_stream.Statement.{statement}
@@ -13,7 +13,7 @@ returns c =
     let mark = marks.before.before in
     let a = mark.before.before.args in
     rw (
-      bare-at (decode a.b.now).volume.streams a.o.stream,
+      bare_at_lem (decode a.b.now).volume.streams a.o.stream,
       ← mark.read-stream-mark.ensures,
       not-true mark.read-stream-mark.result marks.before.if1.true,
       ← marks.marks-stream.ensures,
@@ -29,7 +29,7 @@ returns-2 c =
     (λ w. or_left _ (not-false mark.read-stream-mark.result w.left)) c.before.if1.branch in
     let a = mark.before.before.args in
     rw (
-      bare-at (decode a.b.now).volume.streams a.o.stream,
+      bare_at_lem (decode a.b.now).volume.streams a.o.stream,
       ← mark.read-stream-mark.ensures,
       marked,
       ← c.stream-has-open.ensures,

@@ -1,6 +1,6 @@
 -- `step_vectors::same_bytes` meets its contract. The loop's invariant: the lengths are equal, and the answer is that for what
 -- is left of both texts.
-use Rattle.base.{specs.Base.{◌-◌, ◌≡◌, length, drop, same}, proofs.Laws.{refl, sym, ◌∙◌, arith, needs, same_next, same-stops, same_end, same-lengths}}
+use Rattle.base.{specs.Base.{◌-◌, ◌≡◌, length, drop, same}, proofs.Laws.{refl, sym, ◌∙◌, arith, needs, same_next, same_stops, same_end, same-lengths}}
 use Rattle.step_vectors.proofs.same_bytes.Statement.{statement}
 use Rattle.step_vectors.proofs.same_bytes.Tie as tie
 
@@ -17,7 +17,7 @@ returns-2 : tie.Need-returns-2 invariant-loop decreases-loop
 returns-2 c =
     let l = c.before.before.before.before in
     let s = l.before.before.args in
-    sym (l.loop.invariant.1 ∙ same-stops s.a.now s.b.now l.loop.i 0 0 (omega arith) (omega arith) c.if2.true)
+    sym (l.loop.invariant.1 ∙ same_stops s.a.now s.b.now l.loop.i 0 0 (omega arith) (omega arith) c.if2.true)
 
 loop-again : tie.Need-loop-preserved invariant-loop decreases-loop
 loop-again c =

@@ -3,7 +3,7 @@
 use Rattle.base.{specs.Base.{ℕ, writes, Refusal, ◌>>=◌, ◌>>◌, passed, refuse_if, share_read, BareStream, Namespace, bare_at, bare_used, status_number, Terms, terms_of, Created, FileNo, Handle, Open, Request, FileCorruptError, SharingViolation, StreamNo, length, Bool, false, not, true, List, ◌⊎◌, inl, inr, Option, none, some, ◌≡◌}, proofs.Laws.{not_both, Ends, ends_bind, ends_test, ends_weaker, goes, stops, eq-eqb, not-false, ◌∙◌, ap, refl, subst, sym, arith}}
 use lib.{Bits.or_lt, Dec.lit<}
 use Rattle.consistency.specs.Good.{GoodTerms}
-use Rattle.store.proofs.Sequences.{Changes.{Attributes.{attributes-kept, attributes-unmarked}, Placed.placed-well}, Facts.{AttributesFit, Early, ExistingFits, Joins, MarksKept, NamespaceConsistent, Other, PendingFits, PlacedWell, StreamsKept}, Prepared.prepare-ends}
+use Rattle.store.proofs.Sequences.{Changes.{Attributes.{attributes_kept, attributes_unmarked}, Placed.placed_well}, Facts.{AttributesFit, Early, ExistingFits, Joins, MarksKept, NamespaceConsistent, Other, PendingFits, PlacedWell, StreamsKept}, Prepared.prepare_ends}
 use Rattle.store.specs.{Complete.{Decision, Placed, View, attribute_change, changed, complete, decide, new_open, next_handle, place_existing, share_of, with_share_read}, Prepare.{Existing, Pending, ReadSharing, added_if_alone, as_offered, creating, denied_if_alone, existing}, Request.deletes_on_close}
 
 -- why an accepted open conflicts with none: the check said so, of its terms or of terms that share less; or its stream is
@@ -35,24 +35,24 @@ late : (view : View) (p : Pending) (r : Refusal) → Early r → Late view p r
 late view p r q = record { not_corrupt = q.0; sharing = λ e. absurd (not_sharing r q e) }
 
 -- step 12: a free slot, and the next handle
-handle-ends : (view : View) → Ends Early (λ (h : Handle). (view.room ≡ true) × (h.0 ≡ view.next)) (next_handle view)
+handle_ends : (view : View) → Ends Early (λ (h : Handle). (view.room ≡ true) × (h.0 ≡ view.next)) (next_handle view)
 unfolding next_handle status_number
-handle-ends view =
+handle_ends view =
     ends_test _ _ (refl, refl) (λ a. ends_test _ _ (refl, refl) (λ b. goes (not-false view.room a, refl)))
 
 -- step 10's terms
-share-ends : (rule : ReadSharing) (alone : Bool) (t : Terms)
+share_ends : (rule : ReadSharing) (alone : Bool) (t : Terms)
     → Ends Early (λ (s : Terms). (s ≡ t) ⊎ (s ≡ with_share_read t)) (share_of rule alone t)
 unfolding share_of status_number
-share-ends as_offered alone t = goes (inl refl)
-share-ends added_if_alone true t = goes (inr refl)
-share-ends added_if_alone false t = goes (inl refl)
-share-ends denied_if_alone alone t = ends_test _ _ (refl, refl) (λ e. goes (inl refl))
+share_ends as_offered alone t = goes (inl refl)
+share_ends added_if_alone true t = goes (inr refl)
+share_ends added_if_alone false t = goes (inl refl)
+share_ends denied_if_alone alone t = ends_test _ _ (refl, refl) (λ e. goes (inl refl))
 
-good-still : (t s : Terms) → GoodTerms t → (s ≡ t) ⊎ (s ≡ with_share_read t) → GoodTerms s
+good_still : (t s : Terms) → GoodTerms t → (s ≡ t) ⊎ (s ≡ with_share_read t) → GoodTerms s
 unfolding with_share_read
-good-still t s g (inl e) = subst GoodTerms (sym e) g
-good-still t s g (inr e) =
+good_still t s g (inl e) = subst GoodTerms (sym e) g
+good_still t s g (inr e) =
     subst GoodTerms (sym e)
     (record {
       granted_nonzero = g.granted_nonzero;
@@ -68,7 +68,7 @@ module _ (ns : Namespace) (f : FileNo) (ok : NamespaceConsistent ns) where
   unfolding changed attribute_change writes
   attributes_alone none fits = (ok, refl, λ g u. u)
   attributes_alone (some a) fits =
-      let fit = fits a refl in (attributes-kept ns f a ok fit, refl, attributes-unmarked ns f a ok fit)
+      let fit = fits a refl in (attributes_kept ns f a ok fit, refl, attributes_unmarked ns f a ok fit)
 
 module _ (view : View) (ns : Namespace) (deletes : Bool) (ok : NamespaceConsistent ns) (room : view.room ≡ true) (h : Handle) (next : h.0 ≡ view.next) where
   -- an accepted open of a stream that is there
@@ -94,7 +94,7 @@ module _ (view : View) (ns : Namespace) (deletes : Bool) (ok : NamespaceConsiste
                   record {
                     names_used_stream = ap bare_used (at e.stream) ∙ fits.stream_used;
                     names_its_file = sym (ap (λ (b : BareStream). b.file) (at e.stream) ∙ fits.stream_file);
-                    terms = good-still e.terms t fits.terms s;
+                    terms = good_still e.terms t fits.terms s;
                     handle_below = omega (arith, next);
                     root_stays = fits.root_stays;
                   };
@@ -128,10 +128,10 @@ module _ (view : View) (ns : Namespace) (deletes : Bool) (ok : NamespaceConsiste
         unopposed = inr well.was_free;
       }
 
-pub complete-ends : (view : View) (ns : Namespace) (deletes : Bool) (p : Pending) → NamespaceConsistent ns
+pub complete_ends : (view : View) (ns : Namespace) (deletes : Bool) (p : Pending) → NamespaceConsistent ns
     → PendingFits ns deletes p → Ends (Late view p) (DecisionFits ns view) (complete view ns deletes p)
 unfolding complete status_number refuse_if ◌>>◌
-complete-ends view ns deletes (existing e) ok fits = go (view.conflicts e.stream e.terms) refl
+complete_ends view ns deletes (existing e) ok fits = go (view.conflicts e.stream e.terms) refl
   where
     go : (b : Bool) → view.conflicts e.stream e.terms ≡ b
         → Ends (Late view (existing e)) (DecisionFits ns view)
@@ -142,17 +142,17 @@ complete-ends view ns deletes (existing e) ok fits = go (view.conflicts e.stream
     go true c = stops (record { not_corrupt = refl; sharing = λ s. (e, refl, c) })
     go false c =
         ends_weaker (late view (existing e)) (λ d q. q)
-        (ends_bind (share-ends e.read_sharing _ e.terms)
-        (λ t s. ends_bind (handle-ends view) (λ h q. goes (accepted view ns deletes ok q.0 h q.1 e fits c t s))))
-complete-ends view ns deletes (creating c t) ok fits =
+        (ends_bind (share_ends e.read_sharing _ e.terms)
+        (λ t s. ends_bind (handle_ends view) (λ h q. goes (accepted view ns deletes ok q.0 h q.1 e fits c t s))))
+complete_ends view ns deletes (creating c t) ok fits =
     ends_weaker (late view (creating c t)) (λ d q. q)
-    (ends_bind (placed-well ns ok c fits.0)
-    (λ p well. ends_bind (handle-ends view) (λ h q. goes (created view ns deletes ok q.0 h q.1 p well t fits.1))))
+    (ends_bind (placed_well ns ok c fits.0)
+    (λ p well. ends_bind (handle_ends view) (λ h q. goes (created view ns deletes ok q.0 h q.1 p well t fits.1))))
 
 -- the twelve steps
-pub decide-ends : (view : View) (ns : Namespace) (r : Request) (units : List ℕ) → NamespaceConsistent ns
+pub decide_ends : (view : View) (ns : Namespace) (r : Request) (units : List ℕ) → NamespaceConsistent ns
     → Ends (Other FileCorruptError) (DecisionFits ns view) (decide view ns r units)
 unfolding decide
-decide-ends view ns r units ok =
-    ends_bind (ends_weaker (λ q e. e.0) (λ p f. f) (prepare-ends ns r units ok))
-    (λ p f. ends_weaker (λ q l. l.not_corrupt) (λ d g. g) (complete-ends view ns (deletes_on_close r) p ok f))
+decide_ends view ns r units ok =
+    ends_bind (ends_weaker (λ q e. e.0) (λ p f. f) (prepare_ends ns r units ok))
+    (λ p f. ends_weaker (λ q l. l.not_corrupt) (λ d g. g) (complete_ends view ns (deletes_on_close r) p ok f))

@@ -1,8 +1,8 @@
 -- What the searches find in a consistent namespace: where a path leads, to a used file or to a directory without the
 -- name, which is not marked; and which stream of a file a name is.
-use Rattle.base.{specs.Base.{suc, zero, ℕ, any, first, is_empty, same, ◌>>=◌, passed, some_or, BareStream, Namespace, bare_at, bare_used, zero_bare, status_number, file_name_limit, file_used, is_directory, link_used, root, zero_link, FileNo, LinkNo, FileCorruptError, StreamNo, eqb, get_or, Bool, ◌&&◌, false, not, true, List, [], ◌∷◌, map, Option, none, some, ◌≡◌}, proofs.Laws.{and_left, and_right, any_same, any-count, after-found, none_iff, Ends, ends_bind, ends_test, goes, stops, eqb-true, not-false, false≢true, ◌∙◌, ap, refl, sym, arith}}
+use Rattle.base.{specs.Base.{suc, zero, ℕ, any, first, is_empty, same, ◌>>=◌, passed, some_or, BareStream, Namespace, bare_at, bare_used, zero_bare, status_number, file_name_limit, file_used, is_directory, link_used, root, zero_link, FileNo, LinkNo, FileCorruptError, StreamNo, eqb, get_or, Bool, ◌&&◌, false, not, true, List, [], ◌∷◌, map, Option, none, some, ◌≡◌}, proofs.Laws.{and_left, and_right, any_same, any-count, after_found, none_iff, Ends, ends_bind, ends_test, goes, stops, eqb-true, not-false, false≢true, ◌∙◌, ap, refl, sym, arith}}
 use lib.Dec.{eqb-suc-zero}
-use Rattle.consistency.{proofs.Numbered.{directory-used, same-file}, specs.Relations.{stream_of, unnamed_of}}
+use Rattle.consistency.{proofs.Numbered.{directory_used, same-file}, specs.Relations.{stream_of, unnamed_of}}
 use Rattle.lookup.specs.Lookup.{Place, descend, find_link, found, found_root, link_matches, link_number, locate, locate_leaf, missing, place_in, step_into}
 use Rattle.names.specs.Names.{valid_file_name}
 use Rattle.paths.{proofs.Parsed.LeafFits, specs.Paths.{Leaf, Path}}
@@ -47,16 +47,16 @@ module _ (ns : Namespace) (fold wd : Bool) (ok : NamespaceConsistent ns) where
       ends_test _ _ (refl, refl)
       (λ m. ends_test _ _ (refl, refl) (λ d. goes (record { directory = not-false _ d; unmarked = m })))
 
-  descend-ends : (dir : FileNo) (names : List (List ℕ)) → Passable ns dir → Ends Early (Passable ns) (descend ns fold dir names)
+  descend_ends : (dir : FileNo) (names : List (List ℕ)) → Passable ns dir → Ends Early (Passable ns) (descend ns fold dir names)
   unfolding descend
-  descend-ends dir [] i = goes i
-  descend-ends dir (name ∷ names) i =
-      ends_bind (into_ends (find_link ns fold dir name)) (λ next j. descend-ends next names j)
+  descend_ends dir [] i = goes i
+  descend_ends dir (name ∷ names) i =
+      ends_bind (into_ends (find_link ns fold dir name)) (λ next j. descend_ends next names j)
 
-  leaf-ends : (dir : FileNo) (leaf : Leaf) → Passable ns dir → LeafFits wd leaf → is_empty leaf.file ≡ false
+  leaf_ends : (dir : FileNo) (leaf : Leaf) → Passable ns dir → LeafFits wd leaf → is_empty leaf.file ≡ false
       → Ends Early (PlaceFits ns fold wd) (locate_leaf ns fold dir leaf)
   unfolding locate_leaf find_link place_in link_number link_matches link_used link_at file_used status_number
-  leaf-ends dir leaf i fits named = go (first (link_matches fold dir leaf.file) ns.links) refl
+  leaf_ends dir leaf i fits named = go (first (link_matches fold dir leaf.file) ns.links) refl
     where
       go : (o : Option ℕ) → first (link_matches fold dir leaf.file) ns.links ≡ o
           → Ends Early (PlaceFits ns fold wd) (place_in ns dir leaf (link_number o))
@@ -73,7 +73,7 @@ module _ (ns : Namespace) (fold wd : Bool) (ok : NamespaceConsistent ns) where
           let used =
           matching_used fold l.name leaf.file named
           (and_right (eqb l.parent.0 dir.0) (equal_units fold (units l.name) leaf.file)
-          (after-found (link_matches fold dir leaf.file) zero_link ns.links 0 n e).passes) in
+          (after_found (link_matches fold dir leaf.file) zero_link ns.links 0 n e).passes) in
           ends_test _ _ (refl, refl) (λ m. goes (ok.links.slots.used_good n used).names_used_file)
 
   pub located_ends : (path : Path) → LeafFits wd path.leaf → Ends Early (PlaceFits ns fold wd) (locate ns fold path)
@@ -89,9 +89,9 @@ module _ (ns : Namespace) (fold wd : Bool) (ok : NamespaceConsistent ns) where
             | true ↦ passed found_root
             | false ↦ descend ns fold root path.parents >>= (λ dir. locate_leaf ns fold dir path.leaf)
           ])
-      go true e = goes (directory-used _ from-root.directory)
+      go true e = goes (directory_used _ from-root.directory)
       go false e =
-          ends_bind (descend-ends root path.parents from-root) (λ dir i. leaf-ends dir path.leaf i fits e)
+          ends_bind (descend_ends root path.parents from-root) (λ dir i. leaf_ends dir path.leaf i fits e)
 
 -- a used stream of the file
 pub record StreamThere (ns : Namespace) (f : FileNo) (s : StreamNo) : Type 0 where
@@ -114,16 +114,16 @@ searched ns fold f name = go (first (stream_matches fold f name) ns.streams) ref
         let y = eqb b.file.0 f.0 in
         let h =
         and_left (x && y) (equal_units fold (units b.name) name)
-        (after-found (stream_matches fold f name) zero_bare ns.streams 0 n e).passes in
+        (after_found (stream_matches fold f name) zero_bare ns.streams 0 n e).passes in
         record {
           stream_used = and_left x y h;
           stream_file = same-file b.file f (eqb-true b.file.0 f.0 (and_right x y h));
         }
 
 -- a used file has its unnamed stream
-unnamed-same : (f : FileNo) (b : BareStream) → unnamed_of f b ≡ stream_matches false f [] b
+unnamed_same : (f : FileNo) (b : BareStream) → unnamed_of f b ≡ stream_matches false f [] b
 unfolding unnamed_of stream_of stream_matches equal_units same is_empty
-unnamed-same f b = go (units b.name)
+unnamed_same f b = go (units b.name)
   where
     a : Bool
     a = bare_used b && eqb b.file.0 f.0
@@ -132,13 +132,13 @@ unnamed-same f b = go (units b.name)
     go [] = refl
     go (u ∷ us) = refl
 
-pub unnamed-ends : (ns : Namespace) (f : FileNo) → NamespaceConsistent ns → file_used (file_at ns.files f) ≡ true
+pub unnamed_ends : (ns : Namespace) (f : FileNo) → NamespaceConsistent ns → file_used (file_at ns.files f) ≡ true
     → Ends Early (StreamThere ns f) (some_or FileCorruptError (find_stream ns false f []))
 unfolding some_or
-unnamed-ends ns f ok used = go (find_stream ns false f []) (searched ns false f [])
+unnamed_ends ns f ok used = go (find_stream ns false f []) (searched ns false f [])
   where
     go : (o : Option StreamNo) → SearchFits ns false f [] o → Ends Early (StreamThere ns f) (some_or FileCorruptError o)
     go none None-found =
-        let e = any-count (unnamed_of f) ns.streams (any_same _ _ (unnamed-same f) ns.streams ∙ None-found) in
+        let e = any-count (unnamed_of f) ns.streams (any_same _ _ (unnamed_same f) ns.streams ∙ None-found) in
         absurd (let z : ⊥ = omega (arith, ok.streams.one_unnamed f used, e) in z)
     go (some s) there = goes there

@@ -1,9 +1,9 @@
 -- Tables and a model that hold the same: they find the same open by its handle. And consistent tables, by their
 -- namespace.
-use Rattle.base.{specs.Base.{suc, Permutation, some_or, Namespace, namespace, open_used, Tables, Handle, Open, InvalidHandle, Option, ◌≡◌}, proofs.Laws.{find-keep, perm_find, ◌∙◌, ap, subst, sym}}
+use Rattle.base.{specs.Base.{suc, Permutation, some_or, Namespace, namespace, open_used, Tables, Handle, Open, InvalidHandle, Option, ◌≡◌}, proofs.Laws.{find_keep, perm_find, ◌∙◌, ap, subst, sym}}
 use Rattle.consistency.specs.Consistent.{Consistent, CountsTrue, FilesConsistent, LinksConsistent, MarksConsistent, MarksHeld, NoConflicts, OpensConsistent, StreamsConsistent}
 use Rattle.tables.specs.Tables.{live}
-use Rattle.store.proofs.Sequences.{Facts.NamespaceConsistent, Opens.Close.{handle-used, one-handle}}
+use Rattle.store.proofs.Sequences.{Facts.NamespaceConsistent, Opens.Close.{handle_used, one_handle}}
 use Rattle.store.specs.{Close.decide_close, Model.{Model, model_view}, Store.{has_handle, store_view}}
 
 -- tables and a model that hold the same
@@ -35,12 +35,12 @@ consistent_with t ns e n o c a h =
 
 module _ {t : Tables} {m : Model} (related : Related t m) where
   -- no two entries have one handle
-  opens-same : (h : Handle) → (store_view t).open_of h ≡ (model_view m).open_of h
+  opens_same : (h : Handle) → (store_view t).open_of h ≡ (model_view m).open_of h
   unfolding store_view model_view live
-  opens-same h =
-      sym (find-keep (has_handle h) open_used (handle-used h) t.opens.rows)
-      ∙ perm_find (has_handle h) related.opens_are_entries (one-handle h related.consistent_tables.opens)
+  opens_same h =
+      sym (find_keep (has_handle h) open_used (handle_used h) t.opens.rows)
+      ∙ perm_find (has_handle h) related.opens_are_entries (one_handle h related.consistent_tables.opens)
 
   pub closing_alike : (h : Handle) → decide_close (store_view t) h ≡ decide_close (model_view m) h
   unfolding decide_close
-  closing_alike h = ap (λ (o : Option Open). some_or InvalidHandle o) (opens-same h)
+  closing_alike h = ap (λ (o : Option Open). some_or InvalidHandle o) (opens_same h)

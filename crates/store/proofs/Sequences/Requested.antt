@@ -1,6 +1,6 @@
 -- What steps 1 and 2 leave of a request's numbers, and the numbers that steps 9 and 11 make of them.
 use Rattle.base.{specs.Base.{◌≤◌, ℕ, has, within, without, one_of, all_access, append_data, archive, delete, directory, file_attributes, maximum_allowed, not_content_indexed, overwrite, overwrite_if, supersede, is_directory, File, Data, Directory, Request, bit_and, bit_or, eqb, ltb, Bool, ◌&&◌, ◌||◌, cond, false, not, true, [], ◌∷◌, ◌≢◌, ◌≡◌}, proofs.Laws.{or_neither, eqb-false, not-false, ltb-false, ◌∙◌, ap₂, refl, arith}}
-use Rattle.bits.proofs.Sets.{has_iff_false, has_meets, has_or, has_subset, within_and_r, within_iff, within_less, within_mono, within_or, within_self, within-split, without-clears}
+use Rattle.bits.proofs.Sets.{has_iff_false, has_meets, has_or, has_subset, within_and_r, within_iff, within_less, within_mono, within_or, within_self, within-split, without_clears}
 use Rattle.consistency.specs.Good.{GoodAttributes, GoodTerms}
 use Rattle.store.specs.{Prepare.{attributes_new, granted_new, new_type}, Request.{bad_access, bad_parameters, deletes_on_close, wants_directory}}
 
@@ -44,9 +44,9 @@ requested r p q =
     }
 
 -- step 9's granted access
-pub granted-new : (r : Request) → RequestFits r → GoodTerms (record { granted = granted_new r.access; share = r.share })
+pub granted_new_lem : (r : Request) → RequestFits r → GoodTerms (record { granted = granted_new r.access; share = r.share })
 unfolding granted_new
-granted-new r fits = go (has r.access maximum_allowed) refl
+granted_new_lem r fits = go (has r.access maximum_allowed) refl
   where
     go : (b : Bool) → has r.access maximum_allowed ≡ b
         → GoodTerms (record { granted = cond b all_access r.access; share = r.share })
@@ -65,7 +65,7 @@ replaced r fits =
     let w : within a 0x31A7 ≡ true =
     within_or r.attributes archive 0x31A7 fits.attributes_within ((within_iff archive 0x31A7).1 refl) in
     let n : within (without a 0x2080) 0x1127 ≡ true =
-    within-split (without a 0x2080) 0x1127 0x2080 (within_less a 0x31A7 0x2080 w) (without-clears a 0x2080) in
+    within-split (without a 0x2080) 0x1127 0x2080 (within_less a 0x31A7 0x2080 w) (without_clears a 0x2080) in
     record {
       attributes_within = within_mono (without a 0x2080) 0x1127 file_attributes n refl;
       directory_bit = has_subset (without a 0x2080) 0x1127 directory n ((has_iff_false 0x1127 directory).1 refl);
@@ -92,17 +92,17 @@ pub archived : (a : ℕ) → GoodAttributes false a → GoodAttributes false (bi
 archived a h = joined a archive false false h (part_of_lem archive archive (within_self archive) refl refl)
 
 -- step 9: the bit of the new file's type
-directory-kind : GoodAttributes (is_directory Directory) directory
+directory_kind : GoodAttributes (is_directory Directory) directory
 unfolding is_directory
-directory-kind = record { attributes_within = (within_iff directory file_attributes).1 refl; directory_bit = has_meets directory directory (λ e. omega arith) }
+directory_kind = record { attributes_within = (within_iff directory file_attributes).1 refl; directory_bit = has_meets directory directory (λ e. omega arith) }
 
-file-kind : GoodAttributes (is_directory Data) archive
+file_kind : GoodAttributes (is_directory Data) archive
 unfolding is_directory
-file-kind = part_of_lem archive archive (within_self archive) refl refl
+file_kind = part_of_lem archive archive (within_self archive) refl refl
 
-pub attributes-new : (r : Request) (parent : File) → GoodAttributes (is_directory (new_type r)) (attributes_new r parent)
+pub attributes_new_lem : (r : Request) (parent : File) → GoodAttributes (is_directory (new_type r)) (attributes_new r parent)
 unfolding attributes_new new_type
-attributes-new r parent =
+attributes_new_lem r parent =
     let asked = bit_and r.attributes 0x3127 in
     let inherited = bit_and parent.attributes not_content_indexed in
     let front =
@@ -114,5 +114,5 @@ attributes-new r parent =
     (is_directory (cond (wants_directory r) Directory Data)) front (kind (wants_directory r))
   where
     kind : (b : Bool) → GoodAttributes (is_directory (cond b Directory Data)) (cond b directory archive)
-    kind true = directory-kind
-    kind false = file-kind
+    kind true = directory_kind
+    kind false = file_kind

@@ -1,6 +1,6 @@
 -- Demand 3: every sequence of calls from a freshly formatted volume (store/specs/Sequences.antt has the statement).
 use Rattle.base.{specs.Base.{◌<◌, suc, zero, ℕ, all, any, keep, nil, pairs, ◌>>◌, passed, refuse_if, Reply, open_used, zero_open, Step, Tables, concluded, Done, Refused, FileCorruptError, InvalidParameter, Status, StreamNo, eqb, length, Bool, ◌||◌, false, not, true, List, [], ◌∷◌, inl, inr, ◌≡◌, done}, proofs.Laws.{and_both, not_is, perm_pairs, ne_eqb, ◌∙◌, ap, ap₂, refl, subst, subst₂, sym, arith}}
-use Rattle.consistency.{proofs.{Opens.{agree_iff, agree-swap}, Slots.two_iff}, specs.{Good.{OpensAgree, handles_differ, opens_agree}, Relations.valid_masks}}
+use Rattle.consistency.{proofs.{Opens.{agree_iff, agree_swap}, Slots.two_iff}, specs.{Good.{OpensAgree, handles_differ, opens_agree}, Relations.valid_masks}}
 use Rattle.format.{proofs.Fresh.fresh-consistent, specs.Format.{checked_masks, format, fresh_tables, fresh_volume, right_lengths}}
 use Rattle.sharing.{proofs.Counts.counts_perm, specs.Sharing.counts_of}
 use Rattle.tables.specs.Tables.{stream_at, live}
@@ -34,15 +34,15 @@ module _ (m : Model) (s : Step Model) (issues : Issues m s) (later : List ℕ) w
           (ap {B = List ℕ} (λ ns. suc m.count ∷ ns) (h ∙ ap (λ (n : ℕ). numbers_from (suc n) (length later)) q.1))
 
 -- no call; and one step before a run
-pub ran-none : {t : Tables} {m : Model} → Related t m → Ran m (record { replies = []; state = t }) (record { replies = []; state = m })
+pub ran_none : {t : Tables} {m : Model} → Related t m → Ran m (record { replies = []; state = t }) (record { replies = []; state = m })
 unfolding any issued numbers_from
-ran-none related = record { same_replies = refl; related_after = related; never_corrupt = refl; handles_in_order = refl }
+ran_none related = record { same_replies = refl; related_after = related; never_corrupt = refl; handles_in_order = refl }
 
-pub ran-next : {m : Model} {s : Step Tables} {s' : Step Model} {later : Run Tables} {later' : Run Model} → Together m s s'
+pub ran_next : {m : Model} {s : Step Tables} {s' : Step Model} {later : Run Tables} {later' : Run Model} → Together m s s'
     → Ran s'.state later later'
     → Ran m (record { replies = s.reply ∷ later.replies; state = later.state }) (record { replies = s'.reply ∷ later'.replies; state = later'.state })
 unfolding any issued
-ran-next {m} {s} {s'} {later} {later'} now then =
+ran_next {m} {s} {s'} {later} {later'} now then =
     record {
       same_replies = ap₂ (λ (r : Reply) (rs : List Reply). r ∷ rs) now.same_reply then.same_replies;
       related_after = then.related_after;
@@ -52,8 +52,8 @@ ran-next {m} {s} {s'} {later} {later'} now then =
 
 ran : (t : Tables) (m : Model) → Related t m → (calls : List Call) → Ran m (run store_step t calls) (run model_step m calls)
 unfolding run
-ran t m related [] = ran-none related
-ran t m related (c ∷ cs) = let now = together related c in ran-next now (ran _ _ now.related_after cs)
+ran t m related [] = ran_none related
+ran t m related (c ∷ cs) = let now = together related c in ran_next now (ran _ _ now.related_after cs)
 
 -- what holds of related states
 module _ {t : Tables} {m : Model} (related : Related t m) where
@@ -61,20 +61,20 @@ module _ {t : Tables} {m : Model} (related : Related t m) where
   counts_theirs s b = related.consistent_tables.counts s b ∙ counts_perm related.opens_are_entries s
 
 -- numbers in order are different
-numbers-above : (k n j : ℕ) → j < k → all (λ i. not (eqb j i)) (numbers_from k n) ≡ true
+numbers_above : (k n j : ℕ) → j < k → all (λ i. not (eqb j i)) (numbers_from k n) ≡ true
 unfolding all numbers_from
-numbers-above k zero j h = refl
-numbers-above k (suc n) j h = and_both (not_is (ne_eqb j k (λ e. let z : ⊥ = omega arith in z))) (numbers-above (suc k) n j (omega arith))
+numbers_above k zero j h = refl
+numbers_above k (suc n) j h = and_both (not_is (ne_eqb j k (λ e. let z : ⊥ = omega arith in z))) (numbers_above (suc k) n j (omega arith))
 
-numbers-differ : (k n : ℕ) → pairs (λ h i. not (eqb h i)) (numbers_from k n) ≡ true
+numbers_differ : (k n : ℕ) → pairs (λ h i. not (eqb h i)) (numbers_from k n) ≡ true
 unfolding pairs numbers_from
-numbers-differ k zero = refl
-numbers-differ k (suc n) = and_both (numbers-above (suc k) n k (omega arith)) (numbers-differ (suc k) n)
+numbers_differ k zero = refl
+numbers_differ k (suc n) = and_both (numbers_above (suc k) n k (omega arith)) (numbers_differ (suc k) n)
 
 -- format gives related states
-pub fresh-related : (masks : List ℕ) (read_only : Bool) → valid_masks masks ≡ true → Related (fresh_tables masks read_only) (fresh_model masks read_only)
+pub fresh_related : (masks : List ℕ) (read_only : Bool) → valid_masks masks ≡ true → Related (fresh_tables masks read_only) (fresh_model masks read_only)
 unfolding live keep open_used fresh_volume fresh_tables fresh_model
-fresh-related masks read_only v =
+fresh_related masks read_only v =
     record { consistent_tables = fresh-consistent masks read_only v; opens_are_entries = nil; same_namespace = refl; next_handle = refl }
 
 -- a format that succeeded had valid masks, and left fresh tables
@@ -99,7 +99,7 @@ model_formatted m masks read_only v = rw v
 no_conflict_lem : {t : Tables} {m : Model} → Related t m → pairs opens_agree m.entries ≡ true
 unfolding live open_used
 no_conflict_lem {t} {m} related =
-    sym (perm_pairs opens_agree agree-swap related.opens_are_entries)
+    sym (perm_pairs opens_agree agree_swap related.opens_are_entries)
     ∙ (two_iff open_used zero_open refl opens_agree OpensAgree agree_iff t.opens.rows).1 related.consistent_tables.conflicts
 
 -- all that the statement asks follows from a run that began with no handle issued
@@ -122,7 +122,7 @@ agree m unissued s r q =
       violation_exactly = violation related;
       violation_only_there = λ x units e. let w = from-check s.state related.consistent_tables x units e in (w.0, w.1);
       handles_in_order = in_order;
-      handles_differ = ap (pairs (λ h k. not (eqb h k))) in_order ∙ numbers-differ 1 (length (issued s.replies));
+      handles_differ = ap (pairs (λ h k. not (eqb h k))) in_order ∙ numbers_differ 1 (length (issued s.replies));
     }
 
 pub every_sequence : EverySequence
@@ -131,4 +131,4 @@ every_sequence t m masks read_only accepted calls =
     let f = formatted t masks read_only accepted in
     let g = model_formatted m masks read_only f.0 in
     subst₂ (λ (x : Tables) (y : Model). Agree (run store_step x calls) (run model_step y calls)) (sym f.1) (sym g)
-    (agree (fresh_model masks read_only) refl _ _ (ran _ _ (fresh-related masks read_only f.0) calls))
+    (agree (fresh_model masks read_only) refl _ _ (ran _ _ (fresh_related masks read_only f.0) calls))

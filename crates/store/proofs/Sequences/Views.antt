@@ -1,23 +1,23 @@
 -- The tables and the model that they are related to answer every question about the opens alike, so that the twelve
 -- steps are decided alike.
-use Rattle.base.{specs.Base.{◌<◌, ℕ, any, Checked, ◌>>=◌, ◌>>◌, passed, refuse_if, refused, Namespace, namespace, last_handle, open_slots, open_used, Tables, Terms, Created, Handle, Request, InsufficientResources, SharingViolation, TooManyOpenedFiles, StreamNo, eqb, ltb, length, Bool, not, List, ◌≡◌}, proofs.Laws.{count-short, length-keep, perm_any, perm_length, Ends, went, ◌∙◌, ap, ap₂, refl, subst, sym}}
+use Rattle.base.{specs.Base.{◌<◌, ℕ, any, Checked, ◌>>=◌, ◌>>◌, passed, refuse_if, refused, Namespace, namespace, last_handle, open_slots, open_used, Tables, Terms, Created, Handle, Request, InsufficientResources, SharingViolation, TooManyOpenedFiles, StreamNo, eqb, ltb, length, Bool, not, List, ◌≡◌}, proofs.Laws.{count_short, length-keep, perm_any, perm_length, Ends, went, ◌∙◌, ap, ap₂, refl, subst, sym}}
 use Rattle.sharing.{proofs.{Check.share_check_right_lem, Counts.counts_perm}, specs.Sharing.{any_conflict, share_check}}
 use Rattle.tables.specs.Tables.{stream_at, live, any_on_file}
-use Rattle.store.proofs.Sequences.{Facts.{Early, ExistingFits, PendingFits, namespace_of}, Related.Related, Opens.Names.used-below, Prepared.prepare-ends}
+use Rattle.store.proofs.Sequences.{Facts.{Early, ExistingFits, PendingFits, namespace_of}, Related.Related, Opens.Names.used_below, Prepared.prepare_ends}
 use Rattle.store.specs.{Complete.{View, complete, decide, place, place_existing, share_of, next_handle}, Model.{Model, model_view}, Prepare.{Existing, Pending, creating, existing, prepare}, Request.deletes_on_close, Store.{store_view}}
 
 module _ {t : Tables} {m : Model} (related : Related t m) where
   -- the share check from the counts says what comparing with each entry says
-  pub conflicts-agree : (s : StreamNo) → s.0 < length t.volume.streams → (terms : Terms)
+  pub conflicts_agree : (s : StreamNo) → s.0 < length t.volume.streams → (terms : Terms)
       → share_check (stream_at t.volume.streams s).counts terms ≡ any_conflict s terms m.entries
-  conflicts-agree s b terms =
+  conflicts_agree s b terms =
       ap (λ c. share_check c terms) (related.consistent_tables.counts s b ∙ counts_perm related.opens_are_entries s)
       ∙ share_check_right_lem s m.entries terms
 
-  room-agrees : any (λ o. not (open_used o)) t.opens.rows ≡ ltb (length m.entries) open_slots
+  room_agrees : any (λ o. not (open_used o)) t.opens.rows ≡ ltb (length m.entries) open_slots
   unfolding live
-  room-agrees =
-      count-short open_used t.opens.rows
+  room_agrees =
+      count_short open_used t.opens.rows
       ∙ ap₂ ltb (sym (length-keep open_used t.opens.rows) ∙ perm_length related.opens_are_entries)
       related.consistent_tables.opens.slots.size
 
@@ -65,28 +65,28 @@ module _ {t : Tables} {m : Model} (related : Related t m) where
   unfolding store_view model_view any_on_file namespace
   views_alike deletes p fits =
       record {
-        conflicts = λ e q. conflicts-agree related e.stream (below e (fits-existing q)) e.terms;
+        conflicts = λ e q. conflicts_agree related e.stream (below e (fits_existing q)) e.terms;
         file_open = λ e q. perm_any (λ o. eqb o.file.0 e.file.0) related.opens_are_entries;
-        room = room-agrees related;
+        room = room_agrees related;
         next = related.next_handle;
       }
     where
-      fits-existing : {e : Existing} → p ≡ existing e → ExistingFits (namespace t.volume) deletes e
-      fits-existing q = subst (λ (x : Pending). PendingFits (namespace t.volume) deletes x) q fits
+      fits_existing : {e : Existing} → p ≡ existing e → ExistingFits (namespace t.volume) deletes e
+      fits_existing q = subst (λ (x : Pending). PendingFits (namespace t.volume) deletes x) q fits
 
       below : (e : Existing) → ExistingFits (namespace t.volume) deletes e → e.stream.0 < length t.volume.streams
-      below e f = used-below t.volume.streams e.stream f.stream_used
+      below e f = used_below t.volume.streams e.stream f.stream_used
 
-  pub room-same : (store_view t).room ≡ (model_view m).room
+  pub room_same : (store_view t).room ≡ (model_view m).room
   unfolding store_view model_view
-  room-same = room-agrees related
+  room_same = room_agrees related
 
   -- the twelve steps
   pub decided_alike : (r : Request) (units : List ℕ)
       → decide (store_view t) (namespace t.volume) r units ≡ decide (model_view m) m.namespace r units
   unfolding decide ◌>>=◌
   decided_alike r units =
-      go (prepare ns r units) (prepare-ends ns r units (namespace_of related.consistent_tables))
+      go (prepare ns r units) (prepare_ends ns r units (namespace_of related.consistent_tables))
       ∙ ap (λ (n : Namespace). prepare n r units >>= complete (model_view m) n (deletes_on_close r)) related.same_namespace
     where
       ns : Namespace

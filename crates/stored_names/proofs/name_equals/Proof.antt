@@ -1,7 +1,7 @@
 -- `stored_names::name_equals` meets its contract. The loop's invariant: the answer is that for what is left of both.
 use Rattle.base.{specs.Base.{ℕ, ◌-◌, ◌≡◌, eqb, length, drop, get_or}, proofs.Laws.{sym, ap, ◌∙◌, needs}}
 use Rattle.units.specs.Units.{folded, equal_units}
-use Rattle.stored_names.proofs.{NameUnits.{name-ends, name-stops, name-next, name_end}, name_equals.Statement.statement}
+use Rattle.stored_names.proofs.{NameUnits.{name_ends, name_stops, name_next, name_end}, name_equals.Statement.statement}
 use Rattle.stored_names.specs.StoredNames.{units}
 use Rattle.stored_names.proofs.name_equals.Tie as tie
 
@@ -16,14 +16,14 @@ returns c =
     let t = c.before.before in
     let l = t.before in
     let s = l.before.before.before.args in
-    sym (l.loop.invariant ∙ name-ends s.fold s.name.now s.part.now l.loop.i t.loop-test.true (sym c.before.unit-at.ensures ∙ c.if1.true))
+    sym (l.loop.invariant ∙ name_ends s.fold s.name.now s.part.now l.loop.i t.loop-test.true (sym c.before.unit-at.ensures ∙ c.if1.true))
 
 -- the name has a unit, and what the code compares with the part's
-folded-name : (c : tie.After-folded-unit invariant-loop decreases-loop) →
+folded_name : (c : tie.After-folded-unit invariant-loop decreases-loop) →
     let l = c.before.before.before.before in
     let s = l.before.before.before.args in
     c.folded-unit.result ≡ folded s.fold (get_or s.name.now l.loop.i 0)
-folded-name c =
+folded_name c =
     let s = c.before.before.before.before.before.before.before.args in
     c.folded-unit.ensures ∙ ap (folded s.fold) c.before.before.unit-at.ensures
 
@@ -36,8 +36,8 @@ returns-2 c =
     let s = l.before.before.before.args in
     sym
     (l.loop.invariant
-    ∙ name-stops s.fold s.name.now s.part.now l.loop.i t.loop-test.true (λ e. f.before.if1.false (u.unit-at.ensures ∙ e))
-    (λ e. c.if2.true (folded-name f ∙ e ∙ sym c.before.folded-unit2.ensures)))
+    ∙ name_stops s.fold s.name.now s.part.now l.loop.i t.loop-test.true (λ e. f.before.if1.false (u.unit-at.ensures ∙ e))
+    (λ e. c.if2.true (folded_name f ∙ e ∙ sym c.before.folded-unit2.ensures)))
 
 loop-again : tie.Need-loop-preserved invariant-loop decreases-loop
 loop-again c =
@@ -47,8 +47,8 @@ loop-again c =
     let l = t.before in
     let s = l.before.before.before.args in
     l.loop.invariant
-    ∙ name-next s.fold s.name.now s.part.now l.loop.i t.loop-test.true (λ e. f.before.if1.false (u.unit-at.ensures ∙ e))
-    (sym (folded-name f) ∙ c.if2.false ∙ c.before.folded-unit2.ensures)
+    ∙ name_next s.fold s.name.now s.part.now l.loop.i t.loop-test.true (λ e. f.before.if1.false (u.unit-at.ensures ∙ e))
+    (sym (folded_name f) ∙ c.if2.false ∙ c.before.folded-unit2.ensures)
 
 returns-3 : tie.Need-returns-3 invariant-loop decreases-loop
 returns-3 c =

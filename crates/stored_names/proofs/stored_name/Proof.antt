@@ -1,6 +1,6 @@
 -- `stored_names::stored_name` meets its contract: a turn of the loop stores one unit more.
 use Rattle.base.{specs.Base.{◌-◌, file_name_limit, padded, take}, proofs.Laws.{sym, ◌∙◌, arith, needs, Copied, copied_none, copied_next, copied_all}}
-use Rattle.stored_names.proofs.{Padded.{places_count, places-at}, stored_name.Statement.statement}
+use Rattle.stored_names.proofs.{Padded.{places_count, places_at}, stored_name.Statement.statement}
 use Rattle.stored_names.proofs.stored_name.Tie as tie
 
 abbrev invariant-loop : tie.invariant-loop
@@ -17,7 +17,7 @@ loop-again c =
     let at = c.before.before.loop in
     let name = c.before.before.before.before.args.name.now in
     let k = places_count file_name_limit name in
-    copied_next 0 _ at.invariant (omega arith) (c.unit-at.ensures ∙ sym (places-at file_name_limit name at.i (omega arith)))
+    copied_next 0 _ at.invariant (omega arith) (c.unit-at.ensures ∙ sym (places_at file_name_limit name at.i (omega arith)))
 
 returns : tie.Need-returns invariant-loop decreases-loop
 returns c =

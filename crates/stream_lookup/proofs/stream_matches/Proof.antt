@@ -12,11 +12,11 @@ unfolding stream_matches bare bare_used
 returns c = rw (← c.before.before.before.read-stream-file.ensures, ne_eqb _ _ c.if1.true, and-false)
 
 -- the slot is used as the code finds it
-used_as : (u : tie.After-is-used) {b : Bool} → u.is-used.result ≡ b →
+used_as : (u : tie.After-is-used) {b : Bool} → u.is_used_lem.result ≡ b →
     let a = u.before.before.before.before.before.before.before.before.args in
     bare_used (bare (stream_at (decode a.b.now).volume.streams a.n)) ≡ b
 unfolding bare bare_used
-used_as u e = ap is_used (sym u.before.read-stream-type.ensures) ∙ sym u.is-used.ensures ∙ e
+used_as u e = ap is_used (sym u.before.read-stream-type.ensures) ∙ sym u.is_used_lem.ensures ∙ e
 
 returns-2 : tie.Need-returns-2
 unfolding stream_matches

@@ -1,12 +1,12 @@
 -- `target::target_data` meets its contract.
 use Rattle.base.{specs.Base.{◌≡◌, Option, ◌>>◌, refuse_if, BareStream, bare_at, bare, namespace, StreamNo}, proofs.Laws.{sym, ap, ◌∙◌, needs, eq-eqb, ne_eqb}}
 use Rattle.components.specs.Positions.{part_of}
-use Rattle.consistency.proofs.Derived.{bare-at}
+use Rattle.consistency.proofs.Derived.{bare_at_lem}
 use Rattle.layout.specs.Layout.{decode}
 use Rattle.open_steps.specs.Targets.{as_target}
 use Rattle.store.specs.Target.{target_data}
 use Rattle.stream_lookup.specs.{StreamLookup.{find_stream, found_stream}, declared.FoundStream.FoundStream}
-use Rattle.target.proofs.{Streams.{stream_at, stream-missing}, target_data.Statement.statement}
+use Rattle.target.proofs.{Streams.{stream_at, stream_missing}, target_data.Statement.statement}
 use Rattle.target.proofs.target_data.Tie as tie
 
 -- the definition's search, by what the code's found
@@ -26,7 +26,7 @@ marked : (m : tie.After-read-stream-mark) →
     let a = k.before.before.before.before.before.before.before.before.args in
     m.read-stream-mark.result ≡ (bare_at (namespace (decode a.b.now).volume).streams k.found.given.0.0).delete_pending
 unfolding namespace bare
-marked m = m.read-stream-mark.ensures ∙ sym (ap (λ (s : BareStream). s.delete_pending) (bare-at _ _))
+marked m = m.read-stream-mark.ensures ∙ sym (ap (λ (s : BareStream). s.delete_pending) (bare_at_lem _ _))
 
 returns : tie.Need-returns
 unfolding as_target target_data refuse_if ◌>>◌
@@ -47,7 +47,7 @@ returns-3 : tie.Need-returns-3
 unfolding as_target target_data refuse_if ◌>>◌
 returns-3 c =
     let k = c.before.before in
-    rw (stream-missing _ (found k.before.before k.enum_told.given.1), ← c.before.adds-nothing.ensures, c.if3.true)
+    rw (stream_missing _ (found k.before.before k.enum_told.given.1), ← c.before.adds-nothing.ensures, c.if3.true)
 
 returns-4 : tie.Need-returns-4
 unfolding as_target target_data refuse_if ◌>>◌
@@ -61,7 +61,7 @@ returns-5 : tie.Need-returns-5
 unfolding as_target target_data refuse_if ◌>>◌
 returns-5 c =
     let k = c.before.before in
-    rw (stream-missing _ (found k.before.before k.enum_told.given.1), ← c.before.adds-nothing.ensures, c.if3.false)
+    rw (stream_missing _ (found k.before.before k.enum_told.given.1), ← c.before.adds-nothing.ensures, c.if3.false)
 
 pub target_data_spec : {M : Type 1} → statement M
 target_data_spec =

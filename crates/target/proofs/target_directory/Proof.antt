@@ -2,7 +2,7 @@
 use Rattle.base.{specs.Base.{◌>>=◌, ◌>>◌, refuse_if, some_or}, proofs.Laws.{sym, ◌∙◌, needs, eq-eqb, ne_eqb}}
 use Rattle.open_steps.specs.Targets.{as_resolved, as_target}
 use Rattle.store.specs.Target.{target_directory}
-use Rattle.target.proofs.{Streams.{stream_at, stream-missing}, target_directory.Statement.statement}
+use Rattle.target.proofs.{Streams.{stream_at, stream_missing}, target_directory.Statement.statement}
 use Rattle.target.proofs.target_directory.Tie as tie
 
 returns : tie.Need-returns
@@ -30,7 +30,7 @@ unfolding as_target as_resolved target_directory refuse_if some_or ◌>>◌ ◌>
 returns-4 c path =
     let f = c.before.before in
     let e = f.before.before.before in
-    rw (← e.before.only-opens.ensures, e.if1.false, stream-missing _ (sym f.find-stream.ensures ∙ c.enum_told.given.1))
+    rw (← e.before.only-opens.ensures, e.if1.false, stream_missing _ (sym f.find-stream.ensures ∙ c.enum_told.given.1))
 
 pub target_directory_spec : {M : Type 1} → statement M
 target_directory_spec =

@@ -1,7 +1,7 @@
 -- `units::equal_units` meets its contract. The loop's invariant: the lengths are equal, and the answer is that for what
 -- is left of both rows.
 use Rattle.base.{specs.Base.{◌≤◌, ◌-◌, ◌≡◌, length, drop}, proofs.Laws.{refl, sym, ◌∙◌, arith, needs}}
-use Rattle.units.proofs.{Compare.{equal_next, equal-stops, equal_end, equal-lengths}, equal_units.Statement.statement}
+use Rattle.units.proofs.{Compare.{equal_next, equal_stops, equal_end, equal-lengths}, equal_units.Statement.statement}
 use Rattle.units.specs.Units.{equal_units}
 use Rattle.units.proofs.equal_units.Tie as tie
 
@@ -26,7 +26,7 @@ returns-2 c =
     let s = l.before.before.before.before.args in
     sym
     (l.loop.invariant.2
-    ∙ equal-stops s.fold s.a.now s.b.now l.loop.i (omega arith) (omega arith) (λ e. c.if2.true (c.before.before.before.folded-unit.ensures ∙ e ∙ sym c.before.folded-unit2.ensures)))
+    ∙ equal_stops s.fold s.a.now s.b.now l.loop.i (omega arith) (omega arith) (λ e. c.if2.true (c.before.before.before.folded-unit.ensures ∙ e ∙ sym c.before.folded-unit2.ensures)))
 
 loop-again : tie.Need-loop-preserved invariant-loop decreases-loop
 loop-again c =

@@ -1,7 +1,7 @@
 -- `calls::set_read_only` meets its contract: unsound bytes are refused, and then the mark is written.
 use Rattle.base.{specs.Base.{◌≡◌, true}, proofs.Laws.{refl, sym, ◌∙◌, arith, needs, not-true, not-false}}
 use Rattle.audit.specs.Sound.{sound_bytes}
-use Rattle.call_contracts.proofs.{Performing.{performs_written, performs_unsound, sound-stands, sound-long}, Answering.{setting, switch_sets}}
+use Rattle.call_contracts.proofs.{Performing.{performs_written, performs_unsound, sound_stands, sound_long}, Answering.{setting, switch_sets}}
 use Rattle.store.specs.Store.{store_set_read_only, volume_marked}
 use Rattle.calls.proofs.switching.set_read_only.Statement.{statement}
 use Rattle.calls.proofs.switching.set_read_only.Tie as tie
@@ -26,7 +26,7 @@ returns-2 c =
     let bs = a.b.now in
     let e = switch_sets bs s a.read_only in
     rw c.done.ensures
-    (performs_written _ bs (λ i. omega (arith, c.before.before.before.before.before.before.before.before.slice-known.given i)) (sound-stands (setting a.read_only) bs s) _ _
+    (performs_written _ bs (λ i. omega (arith, c.before.before.before.before.before.before.before.before.slice-known.given i)) (sound_stands (setting a.read_only) bs s) _ _
     (λ i. omega (arith, c.before.slice-known2.given i)) (rw e c.before.before.before.write-mark.ensures) (rw e))
 
 pub set_read_only_spec : {M : Type 1} → statement M
@@ -37,7 +37,7 @@ set_read_only_spec =
     (λ c κs. search needs)
     (λ c. search needs)
     returns
-    (λ c κs. sound-long _ (sound c.before))
+    (λ c κs. sound_long _ (sound c.before))
     (λ c κs. search needs)
     (λ c. search needs)
     returns-2)

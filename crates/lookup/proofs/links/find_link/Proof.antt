@@ -1,6 +1,6 @@
 -- `lookup::links::find_link` meets its contract: a turn of the loop looks at one link more.
 use Rattle.base.{specs.Base.{◌-◌, link_slots, zero_link, namespace}, proofs.Laws.{arith, needs, Searching, searching_begins, searching_finds, searching_turns, searching_ends}}
-use Rattle.layout.{specs.Layout.decode, proofs.Lengths.links-count}
+use Rattle.layout.{specs.Layout.decode, proofs.Lengths.links_count}
 use Rattle.tables.specs.Tables.{link_at}
 use Rattle.lookup.proofs.links.find_link.Statement.{statement}
 use Rattle.lookup.specs.{Lookup.{link_matches, link_number, find_link}, Answers.found_link}
@@ -17,7 +17,7 @@ unfolding found_link find_link link_number namespace link_at
 returns c =
     let m = c.before in
     let l = m.before.before in
-    let n = links-count l.before.before.before.args.b.now in
+    let n = links_count l.before.before.before.args.b.now in
     rw (searching_finds l.loop.invariant zero_link (omega arith) (rw (← m.link-matches.ensures) c.if1.true))
 
 loop-again : tie.Need-loop-preserved invariant-loop decreases-loop
@@ -25,14 +25,14 @@ unfolding link_at
 loop-again c =
     let m = c.before in
     let l = m.before.before in
-    let n = links-count l.before.before.before.args.b.now in
+    let n = links_count l.before.before.before.args.b.now in
     searching_turns l.loop.invariant zero_link (omega arith) (rw (← m.link-matches.ensures) c.if1.false)
 
 returns-2 : tie.Need-returns-2 invariant-loop decreases-loop
 unfolding found_link find_link link_number namespace
 returns-2 c =
     let l = c.before in
-    let n = links-count l.before.before.before.args.b.now in
+    let n = links_count l.before.before.before.args.b.now in
     rw (searching_ends l.loop.invariant (omega arith))
 
 pub find_link_spec : {M : Type 1} → statement M

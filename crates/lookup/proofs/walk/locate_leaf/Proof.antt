@@ -29,24 +29,24 @@ returns c =
     (rw (← c.before.part_of_lem.ensures, ← empty_length) (eq-eqb _ _ c.if1.true))
 
 -- the last component's link, with its file's mark as it is
-at-link : (m : tie.After-read-file-mark) →
+at_link : (m : tie.After-read-file-mark) →
     let s = m.before.before.before.before.before.before.before.before.before.before.before.args in
     let ns = namespace (decode s.b.now).volume in
     refuse_if m.read-file-mark.result DeletePending >> passed (found (record { link = some m.before.before.before.walked.given.0.0; file = m.before.read-link-file.result }))
     ≡ locate ns s.fold (path_to s.path.now s.leaf)
 unfolding place_from namespace
-at-link m =
+at_link m =
     let f = m.before in
     let k = f.before.before in
     rw (m.read-file-mark.ensures, f.read-link-file.ensures) (leads k.before.before k.walked.given.1)
 
 returns-2 : tie.Need-returns-2
 unfolding as_place
-returns-2 c = sym (test_refuses _ _ c.if2.true) ∙ at-link c.before
+returns-2 c = sym (test_refuses _ _ c.if2.true) ∙ at_link c.before
 
 returns-3 : tie.Need-returns-3
 unfolding as_place refuse_if ◌>>◌
-returns-3 c = rw c.if2.false at (at-link c.before)
+returns-3 c = rw c.if2.false at (at_link c.before)
 
 returns-4 : tie.Need-returns-4
 unfolding as_place place_from

@@ -9,7 +9,7 @@ is-used-requires c κs = search rules
 
 returns : tie.Need-returns
 unfolding file_used
-returns c = c.is-used.ensures
+returns c = c.is_used_lem.ensures
 
 pub file_used_spec : {M : Type 1} → statement M
 file_used_spec = tie.close (tie.spec is-used-requires returns)

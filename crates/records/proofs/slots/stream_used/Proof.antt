@@ -9,7 +9,7 @@ is-used-requires c κs = search rules
 
 returns : tie.Need-returns
 unfolding stream_used
-returns c = c.is-used.ensures
+returns c = c.is_used_lem.ensures
 
 pub stream_used_spec : {M : Type 1} → statement M
 stream_used_spec = tie.close (tie.spec is-used-requires returns)

@@ -1,11 +1,11 @@
 -- A file that a directory gains: its placing leaves consistent names.
-use Rattle.base.{specs.Base.{◌≤◌, suc, all, is_empty, writes, BareStream, Namespace, bare_at, bare_used, zero_bare, file_name_limit, stream_name_limit, file_used, is_directory, link_used, root, stream_used, zero_file, zero_link, File, FileNo, LinkNo, StreamNo, set, false, true, List, [], ◌∷◌, ◌≢◌, ◌≡◌}, proofs.Laws.{refuted, not_both, not_is, none-set, set-each, FreeSlot, free_stays, Ends, ends_bind, ends_cond, goes, ne_eqb, ◌∙◌, ap, refl, sym, arith}}
+use Rattle.base.{specs.Base.{◌≤◌, suc, all, is_empty, writes, BareStream, Namespace, bare_at, bare_used, zero_bare, file_name_limit, stream_name_limit, file_used, is_directory, link_used, root, stream_used, zero_file, zero_link, File, FileNo, LinkNo, StreamNo, set, false, true, List, [], ◌∷◌, ◌≢◌, ◌≡◌}, proofs.Laws.{refuted, not_both, not_is, none_set, set-each, FreeSlot, free_stays, Ends, ends_bind, ends_cond, goes, ne_eqb, ◌∙◌, ap, refl, sym, arith}}
 use Rattle.consistency.{proofs.{Numbered.directory-file, Relations.child_of_iff}, specs.{Consistent.StreamsConsistent, Relations.{child_of, has_children, type_at}}}
 use Rattle.names.{specs.{Names.{valid_units, valid_file_name}, declared.NameKind.TheVariants.{FileName, StreamName}}, proofs.ValidNames.file_name_units}
 use Rattle.paths.specs.Paths.{Leaf}
-use Rattle.stored_names.{proofs.Padded.{padded-begins, padded-stored, units-padded}, specs.StoredNames.units}
+use Rattle.stored_names.{proofs.Padded.{padded_begins, padded-stored, units-padded}, specs.StoredNames.units}
 use Rattle.tables.specs.Tables.{file_at}
-use Rattle.store.proofs.Sequences.{Changes.{Files.{FileAdded, file_at_new, file_at_other, files_with, not_added, used-kept}, Free.{file-free, link-free, stream-free}, Links.{LinkSound, links_with}, Marks.{marks-kept, marks_with}, NewStream.{StreamMade, named-sound, no_stream, unnamed-sound}, Relations.link_name_new, Streams.{kept-both, stream-kept, stream-there, streams_with}}, Facts.{Early, FileFits, MarksKept, NamespaceConsistent, PlacedWell, StreamsKept}}
+use Rattle.store.proofs.Sequences.{Changes.{Files.{FileAdded, file_at_new, file_at_other, files_with, not_added, used_kept_lem}, Free.{file_free, link_free, stream_free}, Links.{LinkSound, links_with}, Marks.{marks-kept, marks_with}, NewStream.{StreamMade, named_sound, no_stream, unnamed_sound}, Relations.link_name_new, Streams.{kept_both, stream-kept, stream_there, streams_with}}, Facts.{Early, FileFits, MarksKept, NamespaceConsistent, PlacedWell, StreamsKept}}
 use Rattle.store.specs.{Complete.{changed, link_new, place, place_file, place_streams, stream_new}, Prepare.new_file}
 
 -- the files with one more
@@ -15,13 +15,13 @@ grown ns f file = set ns.files f.0 file
 module _ (ns : Namespace) (dir : FileNo) (leaf : Leaf) (file : File) (h : NamespaceConsistent ns)
     (fit : FileFits ns dir leaf file)
   where
-    link-sound : (gs : List File) (f : FileNo) → file_used (file_at gs f) ≡ true → LinkSound ns.files gs ns.links (link_new dir leaf.file f)
+    link_sound : (gs : List File) (f : FileNo) → file_used (file_at gs f) ≡ true → LinkSound ns.files gs ns.links (link_new dir leaf.file f)
     unfolding link_used file_used link_new
-    link-sound gs f u =
+    link_sound gs f u =
         let valid = file_name_units file_name_limit leaf.file fit.name_valid in
         let same = units-padded FileName file_name_limit leaf.file valid in
         record {
-          used = not_is (ne_eqb _ 0 (padded-begins file_name_limit file_name_limit leaf.file fit.name_valid));
+          used = not_is (ne_eqb _ 0 (padded_begins file_name_limit file_name_limit leaf.file fit.name_valid));
           good =
               record {
                 name_stored = padded-stored FileName file_name_limit leaf.file valid;
@@ -62,9 +62,9 @@ module _ (ns : Namespace) (dir : FileNo) (leaf : Leaf) (file : File) (h : Namesp
         unfolding unnamed
         with_unnamed =
             streams_with ns.streams s unnamed slot ns.files (grown ns f file)
-            (λ g u. ap (λ (x : File). x.file_type) (used-kept added g u))
+            (λ g u. ap (λ (x : File). x.file_type) (used_kept_lem added g u))
             h.streams
-            (unnamed-sound ns.files (grown ns f file) ns.streams f file.file_type h.streams added agrees)
+            (unnamed_sound ns.files (grown ns f file) ns.streams f file.file_type h.streams added agrees)
 
         -- no mark comes, and the parent, which gets a child, has none
         unmarked : MarksKept ns.files (grown ns f file)
@@ -74,7 +74,7 @@ module _ (ns : Namespace) (dir : FileNo) (leaf : Leaf) (file : File) (h : Namesp
             → has_children (set ns.links l.0 (link_new dir leaf.file f)) g ≡ false
         unfolding has_children link_new
         childless g u =
-            none-set (child_of g) ns.links l.0 _
+            none_set (child_of g) ns.links l.0 _
             (refuted _
             (λ c.
             not_both u
@@ -98,7 +98,7 @@ module _ (ns : Namespace) (dir : FileNo) (leaf : Leaf) (file : File) (h : Namesp
                         links_with ns.files (grown ns f file) ns.links f l (link_new dir leaf.file f) h.links
                         added
                         link_slot
-                        (link-sound (grown ns f file) f added.there)
+                        (link_sound (grown ns f file) f added.there)
                         refl
                         not_root_lem;
                     streams = consistent;
@@ -112,10 +112,10 @@ module _ (ns : Namespace) (dir : FileNo) (leaf : Leaf) (file : File) (h : Namesp
               not_root = λ e. not_root_lem (ap (λ (g : FileNo). g.0) e);
             }
 
-        well-unnamed : PlacedWell ns (place_file (f, file) (l, link_new dir leaf.file f) ((s, stream_new f file.file_type []) ∷ []) s)
+        well_unnamed : PlacedWell ns (place_file (f, file) (l, link_new dir leaf.file f) ((s, stream_new f file.file_type []) ∷ []) s)
         unfolding unnamed bare_at bare_used writes stream_new file_used
-        well-unnamed =
-            let new = stream-there ns.streams s unnamed slot in
+        well_unnamed =
+            let new = stream_there ns.streams s unnamed slot in
             well ((s, unnamed) ∷ []) s with_unnamed (stream-kept ns.streams s unnamed slot refl) slot.free
             (ap bare_used new ∙ fit.used)
             (ap (λ (x : BareStream). x.file) new)
@@ -124,8 +124,8 @@ module _ (ns : Namespace) (dir : FileNo) (leaf : Leaf) (file : File) (h : Namesp
         module _ (t : StreamNo) (above : suc s.0 ≤ t.0) (free : FreeSlot bare_used zero_bare ns.streams t.0)
             (given : is_empty leaf.stream ≡ false)
           where
-            slot-still : FreeSlot bare_used zero_bare (set ns.streams s.0 unnamed) t.0
-            slot-still = free_stays slot unnamed t.0 (λ e. let z : ⊥ = omega arith in z) free
+            slot_still : FreeSlot bare_used zero_bare (set ns.streams s.0 unnamed) t.0
+            slot_still = free_stays slot unnamed t.0 (λ e. let z : ⊥ = omega arith in z) free
 
             made : StreamMade (grown ns f file) (set ns.streams s.0 unnamed) f file.file_type leaf.stream
             unfolding unnamed stream_new file_used is_empty valid_units all bare_at
@@ -155,32 +155,32 @@ module _ (ns : Namespace) (dir : FileNo) (leaf : Leaf) (file : File) (h : Namesp
             unfolding is_empty
             no_directory_lem = refuted _ (λ d. not_both (ap is_empty (fit.directory_unnamed d)) given)
 
-            well-named : PlacedWell ns
+            well_named : PlacedWell ns
                 (place_file (f, file) (l, link_new dir leaf.file f)
                 ((s, stream_new f file.file_type []) ∷ (t, stream_new f file.file_type leaf.stream) ∷ []) t)
             unfolding unnamed bare_at bare_used writes stream_new file_used
-            well-named =
+            well_named =
                 let before = set ns.streams s.0 unnamed in
                 let named = stream_new f file.file_type leaf.stream in
-                let new = stream-there before t named slot-still in
+                let new = stream_there before t named slot_still in
                 well ((s, unnamed) ∷ (t, named) ∷ []) t
-                (streams_with before t named slot-still (grown ns f file) (grown ns f file) (λ g u. refl) with_unnamed
-                (named-sound (grown ns f file) before f file.file_type leaf.stream made with_unnamed given no_directory_lem))
-                (kept-both (stream-kept ns.streams s unnamed slot refl) (stream-kept before t named slot-still refl))
+                (streams_with before t named slot_still (grown ns f file) (grown ns f file) (λ g u. refl) with_unnamed
+                (named_sound (grown ns f file) before f file.file_type leaf.stream made with_unnamed given no_directory_lem))
+                (kept_both (stream-kept ns.streams s unnamed slot refl) (stream-kept before t named slot_still refl))
                 free.free
                 (ap bare_used new ∙ fit.used)
                 (ap (λ (x : BareStream). x.file) new)
 
-        streams-placed : Ends Early (PlacedWell ns) (place_streams ns (f, file) (l, link_new dir leaf.file f) leaf.stream s)
+        streams_placed : Ends Early (PlacedWell ns) (place_streams ns (f, file) (l, link_new dir leaf.file f) leaf.stream s)
         unfolding place_streams
-        streams-placed =
-            ends_cond (is_empty leaf.stream) (λ e. goes well-unnamed)
-            (λ e. ends_bind (stream-free ns (suc s.0)) (λ t q. goes (well-named t q.0 q.1 e)))
+        streams_placed =
+            ends_cond (is_empty leaf.stream) (λ e. goes well_unnamed)
+            (λ e. ends_bind (stream_free ns (suc s.0)) (λ t q. goes (well_named t q.0 q.1 e)))
 
-    pub file-placed : Ends Early (PlacedWell ns) (place ns (new_file dir leaf file))
+    pub file_placed : Ends Early (PlacedWell ns) (place ns (new_file dir leaf file))
     unfolding place
-    file-placed =
-        ends_bind (file-free ns)
+    file_placed =
+        ends_bind (file_free ns)
         (λ f a.
-        ends_bind (link-free ns)
-        (λ l b. ends_bind (stream-free ns 0) (λ s c. streams-placed f l s a.1 b.1 c.1)))
+        ends_bind (link_free ns)
+        (λ l b. ends_bind (stream_free ns 0) (λ s c. streams_placed f l s a.1 b.1 c.1)))

@@ -33,9 +33,9 @@ module _ {fs gs : List File} {n : FileNo} (added : FileAdded fs gs n) where
       not_both u (ap (λ (g : FileNo). file_used (file_at fs g)) (same-file f n e) ∙ added.was_free)
 
   -- a used file stays as it is
-  pub used-kept : (f : FileNo) → file_used (file_at fs f) ≡ true → file_at gs f ≡ file_at fs f
-  used-kept f u = added.others f (not_added f u)
+  pub used_kept_lem : (f : FileNo) → file_used (file_at fs f) ≡ true → file_at gs f ≡ file_at fs f
+  used_kept_lem f u = added.others f (not_added f u)
 
   -- a used file is the new one, or it was used before
-  pub used-before : (f : FileNo) → f.0 ≢ n.0 → file_used (file_at gs f) ≡ true → file_used (file_at fs f) ≡ true
-  used-before f e u = ap file_used (sym (added.others f e)) ∙ u
+  pub used_before : (f : FileNo) → f.0 ≢ n.0 → file_used (file_at gs f) ≡ true → file_used (file_at fs f) ≡ true
+  used_before f e u = ap file_used (sym (added.others f e)) ∙ u

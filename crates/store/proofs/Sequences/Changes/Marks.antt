@@ -1,5 +1,5 @@
 -- Files and links where no mark has come: the marks stay consistent, if no marked file gets a child.
-use Rattle.base.{specs.Base.{◌≡◌, true, false, List, get_or, set, root, zero_file, FileNo, File, Link}, proofs.Laws.{not_both, refuted, set-placed}}
+use Rattle.base.{specs.Base.{◌≡◌, true, false, List, get_or, set, root, zero_file, FileNo, File, Link}, proofs.Laws.{not_both, refuted, set_placed}}
 use Rattle.consistency.specs.{Relations.has_children, Consistent.MarksConsistent}
 use Rattle.tables.specs.Tables.{file_at}
 use Rattle.store.proofs.Sequences.Facts.{MarksKept}
@@ -18,5 +18,5 @@ pub marks-kept : (fs : List File) (n : FileNo) (file : File)
     → (file.delete_pending ≡ true → (file_at fs n).delete_pending ≡ true) → MarksKept fs (set fs n.0 file)
 unfolding file_at
 marks-kept fs n file h f =
-    set-placed zero_file (λ j x. x.delete_pending ≡ true → (get_or fs j zero_file).delete_pending ≡ true) fs n.0 file h
+    set_placed zero_file (λ j x. x.delete_pending ≡ true → (get_or fs j zero_file).delete_pending ≡ true) fs n.0 file h
     (λ j u. u) f.0

@@ -3,12 +3,12 @@ use Rattle.base.{specs.Base.{ℕ, zero, suc, ◌≡◌, Bool, true, false, List,
 use Rattle.consistency.specs.Relations.{link_to, parent_of, climb}
 
 -- a place that has no link to the file gets another record that is none
-pub parent-set : (f : FileNo) (ls : List Link) (i : ℕ) (l : Link) → link_to f (get_or ls i zero_link) ≡ false → link_to f l ≡ false
+pub parent_set : (f : FileNo) (ls : List Link) (i : ℕ) (l : Link) → link_to f (get_or ls i zero_link) ≡ false → link_to f l ≡ false
     → parent_of (set ls i l) f ≡ parent_of ls f
 unfolding parent_of
-parent-set f [] i l old new = refl
-parent-set f (m ∷ ms) zero l old new = rw (old, new, parent_of)
-parent-set f (m ∷ ms) (suc i) l old new = go (link_to f m) refl (parent-set f ms i l old new)
+parent_set f [] i l old new = refl
+parent_set f (m ∷ ms) zero l old new = rw (old, new, parent_of)
+parent_set f (m ∷ ms) (suc i) l old new = go (link_to f m) refl (parent_set f ms i l old new)
   where
     go : (b : Bool) → link_to f m ≡ b → parent_of (set ms i l) f ≡ parent_of ms f
         → parent_of (m ∷ set ms i l) f ≡ parent_of (m ∷ ms) f

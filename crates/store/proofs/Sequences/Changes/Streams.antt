@@ -1,10 +1,10 @@
 -- A stream written at a free number: when the streams stay consistent, also over files that have grown.
-use Rattle.base.{specs.Base.{◌+◌, ◌≡◌, Bool, true, false, ◌&&◌, List, eqb, get_or, set, count, is_empty, is_directory, file_used, BareStream, zero_bare, bare_used, bare_at, FileNo, StreamNo, File}, proofs.Laws.{sym, ◌∙◌, ap, length-set, get_or-set_same, not_both, one, set-placed, FreeSlot, count-gained}}
-use Rattle.consistency.{specs.{Good.StreamNamesDiffer, Relations.{type_at, stream_of, unnamed_of}, Consistent.{GoodStreamOf, StreamsConsistent}}, proofs.Slots.{slots-good, slots_set, two-set}}
-use Rattle.lists.proofs.Set.{used-stays}
+use Rattle.base.{specs.Base.{◌+◌, ◌≡◌, Bool, true, false, ◌&&◌, List, eqb, get_or, set, count, is_empty, is_directory, file_used, BareStream, zero_bare, bare_used, bare_at, FileNo, StreamNo, File}, proofs.Laws.{sym, ◌∙◌, ap, length-set, get_or-set_same, not_both, one, set_placed, FreeSlot, count-gained}}
+use Rattle.consistency.{specs.{Good.StreamNamesDiffer, Relations.{type_at, stream_of, unnamed_of}, Consistent.{GoodStreamOf, StreamsConsistent}}, proofs.Slots.{slots_good, slots_set, two_set}}
+use Rattle.lists.proofs.Set.{used_stays}
 use Rattle.stored_names.specs.StoredNames.{units}
 use Rattle.tables.specs.Tables.{file_at}
-use Rattle.store.proofs.Sequences.{Facts.StreamsKept, Changes.Types.{SameType, stream-still}}
+use Rattle.store.proofs.Sequences.{Facts.StreamsKept, Changes.Types.{SameType, stream_still}}
 
 -- a stream that the files and streams may gain
 pub record StreamSound (fs : List File) (ss : List BareStream) (b : BareStream) : Type 0 where
@@ -32,7 +32,7 @@ module _ (ss : List BareStream) (s : StreamNo) (b : BareStream) (slot : FreeSlot
   streams_with fs gs same h sound =
       record {
         slots =
-            slots_set (slots-good (stream-still fs gs same) h.slots) s.0 b (λ u. sound.good)
+            slots_set (slots_good (stream_still fs gs same) h.slots) s.0 b (λ u. sound.good)
             (λ u. absurd (not_both sound.used u));
         one_unnamed =
             λ f u.
@@ -43,7 +43,7 @@ module _ (ss : List BareStream) (s : StreamNo) (b : BareStream) (slot : FreeSlot
             count-gained ss s.0 b zero_bare slot.below (stream_of f) (free_no_stream f _ slot.free)
             ∙ sound.directories_have_one f u;
         names_differ =
-            two-set bare_used zero_bare StreamNamesDiffer (λ x y d e n. d (sym e) (sym n)) ss h.names_differ s.0 b
+            two_set bare_used zero_bare StreamNamesDiffer (λ x y d e n. d (sym e) (sym n)) ss h.names_differ s.0 b
             (λ j w u e n. sound.name_new (record { 0 = j }) u (sym e) (sym n));
       }
 
@@ -53,19 +53,19 @@ module _ (ss : List BareStream) (s : StreamNo) (b : BareStream) (slot : FreeSlot
   stream-kept unmarked =
       record {
         same_length = length-set ss s.0 b;
-        used_kept = λ t u. used-stays slot b t.0 u;
+        used_kept = λ t u. used_stays slot b t.0 u;
         marks_kept =
             λ t.
-            set-placed zero_bare (λ j x. x.delete_pending ≡ true → (get_or ss j zero_bare).delete_pending ≡ true) ss s.0 b
+            set_placed zero_bare (λ j x. x.delete_pending ≡ true → (get_or ss j zero_bare).delete_pending ≡ true) ss s.0 b
             (λ u. absurd (not_both u unmarked)) (λ j u. u) t.0;
       }
 
-  pub stream-there : bare_at (set ss s.0 b) s ≡ b
+  pub stream_there : bare_at (set ss s.0 b) s ≡ b
   unfolding bare_at
-  stream-there = get_or-set_same ss s.0 b zero_bare slot.below
+  stream_there = get_or-set_same ss s.0 b zero_bare slot.below
 
-pub kept-both : {ss ts us : List BareStream} → StreamsKept ss ts → StreamsKept ts us → StreamsKept ss us
-kept-both h k =
+pub kept_both : {ss ts us : List BareStream} → StreamsKept ss ts → StreamsKept ts us → StreamsKept ss us
+kept_both h k =
     record {
       same_length = k.same_length ∙ h.same_length;
       used_kept = λ t u. let e = h.used_kept t u in k.used_kept t (ap bare_used e ∙ u) ∙ e;

@@ -1,7 +1,7 @@
 -- The share counts stay true: a stream is marked, or streams go that no open is on.
 use Rattle.base.{specs.Base.{ℕ, ◌<◌, ◌≡◌, Bool, true, false, List, length, set, with_counts, zero_stream, StreamNo, Stream, Open}, proofs.Laws.{sym, ◌∙◌, ap, ⊎_elim, arith, by_cases, length-set, set_cases, Clears}}
 use Rattle.consistency.specs.Consistent.{CountsTrue}
-use Rattle.sharing.{specs.Sharing.on_stream, proofs.Counts.counts-none}
+use Rattle.sharing.{specs.Sharing.on_stream, proofs.Counts.counts_none}
 use Rattle.tables.specs.Tables.{stream_at, live, any_on_stream, stream_has_open}
 use Rattle.store.specs.Store.{marked_stream}
 
@@ -11,7 +11,7 @@ module _ (ss : List Stream) (os : List Open) (c : CountsTrue ss os) where
   unfolding stream_at any_on_stream on_stream
   counts_clear {gone} clears none s l =
       by_cases (gone s.0)
-      (λ e. ap (λ (x : Stream). x.counts) (clears.goes s.0 e) ∙ sym (counts-none s (live os) (none s e)))
+      (λ e. ap (λ (x : Stream). x.counts) (clears.goes s.0 e) ∙ sym (counts_none s (live os) (none s e)))
       (λ e. ap (λ (x : Stream). x.counts) (clears.stays s.0 e) ∙ c s (omega (arith, clears.same_length)))
 
   pub counts-marked : (s : StreamNo) → s.0 < length ss → CountsTrue (set ss s.0 (marked_stream (stream_at ss s))) os

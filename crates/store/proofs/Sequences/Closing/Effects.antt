@@ -1,8 +1,8 @@
 -- Whatever becomes of the file and stream of an open that was struck, the tables are consistent then.
-use Rattle.base.{specs.Base.{ℕ, ◌<◌, ◌≡◌, true, false, not, ◌&&◌, List, length, map, Namespace, namespace, BareStream, bare, bare_used, bare_at, zero_stream, Stream, Open, Tables}, proofs.Laws.{refl, sym, ◌∙◌, ap, and_left, and_right, not-true, cond_cases, set-clears, map-clears}}
-use Rattle.consistency.{specs.{Relations.stream_of, Consistent.{Consistent, CountsTrue, NoConflicts}}, proofs.{Derived.bare-at, Numbered.stream_iff}}
+use Rattle.base.{specs.Base.{ℕ, ◌<◌, ◌≡◌, true, false, not, ◌&&◌, List, length, map, Namespace, namespace, BareStream, bare, bare_used, bare_at, zero_stream, Stream, Open, Tables}, proofs.Laws.{refl, sym, ◌∙◌, ap, and_left, and_right, not-true, cond_cases, set_clears, map_clears}}
+use Rattle.consistency.{specs.{Relations.stream_of, Consistent.{Consistent, CountsTrue, NoConflicts}}, proofs.{Derived.bare_at_lem, Numbered.stream_iff}}
 use Rattle.tables.specs.Tables.{stream_at, file_has_open, stream_has_open}
-use Rattle.store.proofs.Sequences.{Opens.Names.used-below, Related.consistent_with, Closing.{Facts.{AfterStrike, Settled, file_goes, stream_goes, files-held, streams-held}, FileMarked.file-marked, StreamMarked.stream-marked, FileRemoved.{file_removed_lem, unopened-streams}, StreamRemoved.stream_removed_lem, Counts.{counts_clear, counts-marked}, Names.names-after}}
+use Rattle.store.proofs.Sequences.{Opens.Names.used_below, Related.consistent_with, Closing.{Facts.{AfterStrike, Settled, file_goes, stream_goes, files_held, streams_held}, FileMarked.file-marked, StreamMarked.stream-marked, FileRemoved.{file_removed_lem, unopened_streams}, StreamRemoved.stream_removed_lem, Counts.{counts_clear, counts-marked}, Names.names_after}}
 use Rattle.store.specs.{Close.{CloseEffect, unchanged, file_marked, file_removed, stream_marked, stream_removed, marks_file, marks_stream, removes_file, removes_stream, close_effect, cleared, namespace_after, files_after, links_after, streams_after}, Store.{store_view, marked_stream, volume_after, settled}}
 
 -- what an effect leaves: names, opens and marks, and true counts
@@ -15,7 +15,7 @@ module _ {ns : Namespace} {next : ℕ} {os : List Open} {o : Open} (a : AfterStr
   where
     below : o.stream.0 < length ss
     below =
-        used-below ss o.stream (ap (λ (bs : List BareStream). bare_used (bare_at bs o.stream)) same ∙ a.good.names_used_stream)
+        used_below ss o.stream (ap (λ (bs : List BareStream). bare_used (bare_at bs o.stream)) same ∙ a.good.names_used_stream)
 
     leaves_file_removed : (file_goes ns o && not (file_has_open os o.file)) ≡ true → Leaves ns next ss os (file_removed o.file)
     unfolding streams_after cleared stream_at
@@ -25,10 +25,10 @@ module _ {ns : Namespace} {next : ℕ} {os : List Open} {o : Open} (a : AfterStr
         record {
           settled = file_removed_lem a goes unopened;
           counts =
-              counts_clear ss os c (map-clears zero_stream ss (λ s. stream_of o.file (bare s)))
+              counts_clear ss os c (map_clears zero_stream ss (λ s. stream_of o.file (bare s)))
               (λ s e.
-              unopened-streams a goes unopened s
-              (ap (λ (bs : List BareStream). stream_of o.file (bare_at bs s)) (sym same) ∙ ap (stream_of o.file) (bare-at ss s) ∙ e));
+              unopened_streams a goes unopened s
+              (ap (λ (bs : List BareStream). stream_of o.file (bare_at bs s)) (sym same) ∙ ap (stream_of o.file) (bare_at_lem ss s) ∙ e));
         }
 
     module _ (file_stays : (file_goes ns o && not (file_has_open os o.file)) ≡ false) where
@@ -41,7 +41,7 @@ module _ {ns : Namespace} {next : ℕ} {os : List Open} {o : Open} (a : AfterStr
           record {
             settled = stream_removed_lem a file_stays goes unopened;
             counts =
-                counts_clear ss os c (set-clears zero_stream ss o.stream.0 below)
+                counts_clear ss os c (set_clears zero_stream ss o.stream.0 below)
                 (λ s e. ap (stream_has_open os) ((stream_iff s o.stream).0 e) ∙ unopened);
           }
 
@@ -55,15 +55,15 @@ module _ {ns : Namespace} {next : ℕ} {os : List Open} {o : Open} (a : AfterStr
         leaves_stream_marked m =
             record { settled = stream-marked a file_stays stream_stays m; counts = counts-marked ss os c o.stream below }
 
-        leaves-unchanged : Leaves ns next ss os unchanged
+        leaves_unchanged : Leaves ns next ss os unchanged
         unfolding namespace_after files_after links_after streams_after
-        leaves-unchanged =
+        leaves_unchanged =
             record {
               settled =
                   record {
                     names = a.names;
                     opens = a.opens;
-                    held = record { files = files-held a file_stays; streams = streams-held a stream_stays };
+                    held = record { files = files_held a file_stays; streams = streams_held a stream_stays };
                   };
               counts = c;
             }
@@ -87,12 +87,12 @@ module _ (t : Tables) (o : Open)
         cond_cases P (marks_file ns o) _ _ (leaves_file_marked a ss refl c f s)
         (λ m.
         cond_cases P (marks_stream ns o) _ _ (leaves_stream_marked a ss refl c f s)
-        (λ n. leaves-unchanged a ss refl c f s))))
+        (λ n. leaves_unchanged a ss refl c f s))))
 
     pub settled-consistent : NoConflicts t.opens.rows → Consistent (settled t o).volume (settled t o).opens
     unfolding settled namespace volume_after
     settled-consistent conflicts =
         let e = close_effect (store_view t) (namespace t.volume) o in
         let s = leaves.settled in
-        consistent_with (settled t o) (namespace_after e (namespace t.volume)) (names-after e t.volume) s.names s.opens
+        consistent_with (settled t o) (namespace_after e (namespace t.volume)) (names_after e t.volume) s.names s.opens
         leaves.counts conflicts s.held

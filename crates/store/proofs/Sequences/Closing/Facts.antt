@@ -1,7 +1,7 @@
 -- Consistent tables from which an open is struck: what holds before its file and stream are looked at, and what follows
 -- when one of them is marked or goes.
 use Rattle.base.{specs.Base.{ℕ, ◌<◌, ◌≡◌, Bool, true, false, not, ◌&&◌, ◌||◌, List, ◌≢◌, eqb, length, is_empty, root, is_used, file_used, Namespace, bare_at, FileNo, StreamNo, Open}, proofs.Laws.{sym, ◌∙◌, ap, ⊎_elim, not_both, not_is, excluded, not-false, not-true, and_left, and_right, or_cases, or_left, by_cases, fails_iff}}
-use Rattle.consistency.{specs.{Relations.{type_at, has_children}, Consistent.{GoodOpenOf, OpensConsistent, MarksHeld}}, proofs.{Derived.stream-good, Numbered.{file_in, file_iff, stream_iff}, Streams.stream_in}}
+use Rattle.consistency.{specs.{Relations.{type_at, has_children}, Consistent.{GoodOpenOf, OpensConsistent, MarksHeld}}, proofs.{Derived.stream_good, Numbered.{file_in, file_iff, stream_iff}, Streams.stream_in}}
 use Rattle.stored_names.specs.StoredNames.{units}
 use Rattle.tables.specs.Tables.{file_at, file_has_open, stream_has_open}
 use Rattle.store.proofs.Sequences.Facts.{NamespaceConsistent}
@@ -39,17 +39,17 @@ stream_goes ns o = (bare_at ns.streams o.stream).delete_pending || marks_stream 
 
 module _ {ns : Namespace} {next : ℕ} {os : List Open} {o : Open} (a : AfterStrike ns next os o) where
   -- the open's file and stream are there
-  pub stream-below : o.stream.0 < length ns.streams
-  stream-below = stream_in ns.streams o.stream a.good.names_used_stream
+  pub stream_below : o.stream.0 < length ns.streams
+  stream_below = stream_in ns.streams o.stream a.good.names_used_stream
 
-  pub file-used : file_used (file_at ns.files o.file) ≡ true
+  pub file_used_lem : file_used (file_at ns.files o.file) ≡ true
   unfolding file_used
-  file-used =
+  file_used_lem =
       ap (λ (f : FileNo). is_used (type_at ns.files f)) a.good.names_its_file
-      ∙ (stream-good a.names.streams o.stream a.good.names_used_stream).names_used_file
+      ∙ (stream_good a.names.streams o.stream a.good.names_used_stream).names_used_file
 
-  pub file-below : o.file.0 < length ns.files
-  file-below = file_in ns.files o.file file-used
+  pub file_below : o.file.0 < length ns.files
+  file_below = file_in ns.files o.file file_used_lem
 
   -- a file that goes is not the root and has no children
   pub goes_not_root : file_goes ns o ≡ true → o.file ≢ root
@@ -59,18 +59,18 @@ module _ {ns : Namespace} {next : ℕ} {os : List Open} {o : Open} (a : AfterStr
       (λ m. a.good.root_stays (and_left o.delete_on_close _ (and_left _ (not (has_children ns.links o.file)) m)))
       (or_cases (file_at ns.files o.file).delete_pending (marks_file ns o) g)
 
-  pub goes-childless : file_goes ns o ≡ true → has_children ns.links o.file ≡ false
+  pub goes_childless : file_goes ns o ≡ true → has_children ns.links o.file ≡ false
   unfolding marks_file
-  goes-childless g =
+  goes_childless g =
       ⊎_elim (a.names.marks.marked_childless o.file)
       (λ m. not-true (has_children ns.links o.file) (and_right (o.delete_on_close && not (of_named_stream ns o)) _ m))
       (or_cases (file_at ns.files o.file).delete_pending (marks_file ns o) g)
 
   -- a stream that goes is a named one
-  pub goes-named : stream_goes ns o ≡ true → is_empty (units (bare_at ns.streams o.stream).name) ≡ false
+  pub goes_named : stream_goes ns o ≡ true → is_empty (units (bare_at ns.streams o.stream).name) ≡ false
   unfolding marks_stream of_named_stream
-  goes-named g =
-      ⊎_elim (stream-good a.names.streams o.stream a.good.names_used_stream).marked_named
+  goes_named g =
+      ⊎_elim (stream_good a.names.streams o.stream a.good.names_used_stream).marked_named
       (λ m. not-true _ (and_right o.delete_on_close _ m))
       (or_cases (bare_at ns.streams o.stream).delete_pending (marks_stream ns o) g)
 
@@ -84,8 +84,8 @@ module _ {ns : Namespace} {next : ℕ} {os : List Open} {o : Open} (a : AfterStr
   pub marked-held : file_goes ns o ≡ true → file_has_open os o.file ≡ true
   marked-held = open_kept (file_goes ns o) (file_has_open os o.file) stays
 
-  pub files-held : (f : FileNo) → (file_at ns.files f).delete_pending ≡ true → file_has_open os f ≡ true
-  files-held f p =
+  pub files_held : (f : FileNo) → (file_at ns.files f).delete_pending ≡ true → file_has_open os f ≡ true
+  files_held f p =
       file-cases f o.file
       (λ e.
       ap (file_has_open os) e
@@ -98,8 +98,8 @@ module _ {ns : Namespace} {next : ℕ} {os : List Open} {o : Open} (a : AfterStr
   pub marked_stream_held : stream_goes ns o ≡ true → stream_has_open os o.stream ≡ true
   marked_stream_held = open_kept (stream_goes ns o) (stream_has_open os o.stream) stays
 
-  pub streams-held : (s : StreamNo) → (bare_at ns.streams s).delete_pending ≡ true → stream_has_open os s ≡ true
-  streams-held s p =
+  pub streams_held : (s : StreamNo) → (bare_at ns.streams s).delete_pending ≡ true → stream_has_open os s ≡ true
+  streams_held s p =
       stream-cases s o.stream
       (λ e.
       ap (stream_has_open os) e

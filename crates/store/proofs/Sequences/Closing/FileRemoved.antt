@@ -2,7 +2,7 @@
 use Rattle.base.{specs.Base.{ℕ, ◌≡◌, true, false, List, Namespace, BareStream, bare_used, bare_at, zero_bare, eqb, open_used, zero_open, FileNo, StreamNo, File, Open}, proofs.Laws.{sym, ◌∙◌, ap, not_both, refuted, by_cases, fails_iff, none_kept_of}}
 use Rattle.consistency.{specs.{Relations.stream_of, Consistent.{open_at, OpensConsistent}}, proofs.{Numbered.stream_iff, Relations.stream_of_iff}}
 use Rattle.tables.specs.Tables.{file_at, live, any_on_stream, file_has_open, stream_has_open}
-use Rattle.store.proofs.Sequences.Closing.{Facts.{AfterStrike, Settled, file_goes, file-below, goes_not_root, goes-childless}, Opens.{opens_still, unopened-file}, FileGone.{files_left, file-gone, marked-before, files-left, links-left, marks-left, streams_left, streams_clear, streams-left}}
+use Rattle.store.proofs.Sequences.Closing.{Facts.{AfterStrike, Settled, file_goes, file_below, goes_not_root, goes_childless}, Opens.{opens_still, unopened_file}, FileGone.{files_left, file-gone, marked_before, files_left_lem, links_left_lem, marks-left, streams_left, streams_clear, streams_left_lem}}
 use Rattle.store.specs.Close.{file_removed, namespace_after, files_after, links_after, streams_after}
 
 module _ {ns : Namespace} {next : ℕ} {os : List Open} {o : Open} (a : AfterStrike ns next os o)
@@ -22,26 +22,26 @@ module _ {ns : Namespace} {next : ℕ} {os : List Open} {o : Open} (a : AfterStr
     gone s e = (streams_clear ns.streams o.file).goes s.0 e
 
     -- no open is on one of its streams, the closed one's among them
-    other-file : (i : ℕ) → open_used (open_at os i) ≡ true → stream_of o.file (bare_at ns.streams (open_at os i).stream) ≡ false
-    other-file i u =
+    other_file : (i : ℕ) → open_used (open_at os i) ≡ true → stream_of o.file (bare_at ns.streams (open_at os i).stream) ≡ false
+    other_file i u =
         refuted _
         (λ e.
-        unopened-file os o.file unopened i u
+        unopened_file os o.file unopened i u
         ((a.opens.slots.used_good i u).names_its_file ∙ ((stream_of_iff o.file (bare_at ns.streams (open_at os i).stream)).0 e).1))
 
-    pub unopened-streams : (s : StreamNo) → stream_of o.file (bare_at ns.streams s) ≡ true → stream_has_open os s ≡ false
+    pub unopened_streams : (s : StreamNo) → stream_of o.file (bare_at ns.streams s) ≡ true → stream_has_open os s ≡ false
     unfolding any_on_stream live
-    unopened-streams s t =
+    unopened_streams s t =
         none_kept_of open_used (λ q. eqb q.stream.0 s.0) zero_open os
         (λ i u.
         (fails_iff (stream_iff (open_at os i).stream s)).1
-        (λ e. not_both t (ap (λ (x : StreamNo). stream_of o.file (bare_at ns.streams x)) (sym e) ∙ other-file i u)))
+        (λ e. not_both t (ap (λ (x : StreamNo). stream_of o.file (bare_at ns.streams x)) (sym e) ∙ other_file i u)))
 
-    opens-after : OpensConsistent after next os
-    opens-after =
+    opens_after : OpensConsistent after next os
+    opens_after =
         opens_still after a.opens
         (λ i u.
-        let same = stays (open_at os i).stream (other-file i u) in
+        let same = stays (open_at os i).stream (other_file i u) in
         (ap bare_used same ∙ (a.opens.slots.used_good i u).names_used_stream, ap (λ (x : BareStream). x.file) same))
 
     own : stream_of o.file (bare_at ns.streams o.stream) ≡ true
@@ -50,8 +50,8 @@ module _ {ns : Namespace} {next : ℕ} {os : List Open} {o : Open} (a : AfterStr
     files_held_after : (f : FileNo) → (file_at (files_left o.file ns.files) f).delete_pending ≡ true → file_has_open os f ≡ true
     files_held_after f p =
         let unmarked : (f ≡ o.file → (file_at (files_left o.file ns.files) f).delete_pending ≡ false) =
-        λ e. ap (λ (x : File). x.delete_pending) (file-gone ns.files o.file (file-below a) f e) in
-        a.other_files f (λ e. not_both p (unmarked e)) (marked-before ns.files o.file (file-below a) f p)
+        λ e. ap (λ (x : File). x.delete_pending) (file-gone ns.files o.file (file_below a) f e) in
+        a.other_files f (λ e. not_both p (unmarked e)) (marked_before ns.files o.file (file_below a) f p)
 
     streams_held_after : (s : StreamNo) → (bare_at after s).delete_pending ≡ true → stream_has_open os s ≡ true
     streams_held_after s p =
@@ -65,15 +65,15 @@ module _ {ns : Namespace} {next : ℕ} {os : List Open} {o : Open} (a : AfterStr
     unfolding namespace_after files_after links_after streams_after
     file_removed_lem =
         let r = goes_not_root a goes in
-        let childless = goes-childless a goes in
+        let childless = goes_childless a goes in
         record {
           names =
               record {
-                files = files-left ns.files o.file (file-below a) a.names.files r;
-                links = links-left ns.files ns.links o.file (file-below a) childless a.names.links r;
-                streams = streams-left ns.files ns.streams o.file (file-below a) a.names.streams;
-                marks = marks-left ns.files ns.links o.file (file-below a) childless a.names.marks r;
+                files = files_left_lem ns.files o.file (file_below a) a.names.files r;
+                links = links_left_lem ns.files ns.links o.file (file_below a) childless a.names.links r;
+                streams = streams_left_lem ns.files ns.streams o.file (file_below a) a.names.streams;
+                marks = marks-left ns.files ns.links o.file (file_below a) childless a.names.marks r;
               };
-          opens = opens-after;
+          opens = opens_after;
           held = record { files = files_held_after; streams = streams_held_after };
         }

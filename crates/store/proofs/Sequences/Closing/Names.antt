@@ -10,21 +10,21 @@ cleared-bare f [] = refl
 cleared-bare f (s ∷ ss) =
     by_cases (stream_of f (bare s)) (λ e. rw (e, cleared-bare f ss)) (λ e. rw (e, cleared-bare f ss))
 
-streams-bare : (e : CloseEffect) (ss : List Stream)
+streams_bare : (e : CloseEffect) (ss : List Stream)
     → map bare (streams_after bare zero_stream marked_stream e ss) ≡ streams_after (λ s. s) zero_bare marked_bare e (map bare ss)
 unfolding streams_after marked_stream bare with_counts marked_bare
-streams-bare unchanged ss = refl
-streams-bare (file_marked f) ss = refl
-streams-bare (file_removed f) ss = cleared-bare f ss
-streams-bare (stream_marked s) ss =
+streams_bare unchanged ss = refl
+streams_bare (file_marked f) ss = refl
+streams_bare (file_removed f) ss = cleared-bare f ss
+streams_bare (stream_marked s) ss =
     map-set bare ss s.0 (marked_stream (get_or ss s.0 zero_stream))
     ∙ ap (λ (b : BareStream). set (map bare ss) s.0 (marked_bare b)) (sym (get_or_map bare ss s.0 zero_stream))
-streams-bare (stream_removed s) ss = map-set bare ss s.0 zero_stream
+streams_bare (stream_removed s) ss = map-set bare ss s.0 zero_stream
 
-pub names-after : (e : CloseEffect) (v : Volume) → namespace (volume_after e v) ≡ namespace_after e (namespace v)
+pub names_after : (e : CloseEffect) (v : Volume) → namespace (volume_after e v) ≡ namespace_after e (namespace v)
 unfolding namespace volume_after namespace_after
-names-after e v =
+names_after e v =
     ap
     (λ (bs : List BareStream).
     record { read_only = v.read_only; files = files_after e v.files; links = links_after e v.links; streams = bs })
-    (streams-bare e v.streams)
+    (streams_bare e v.streams)

@@ -4,16 +4,16 @@ use Rattle.consistency.{specs.Consistent.{open_at, OpensConsistent}, proofs.Numb
 use Rattle.tables.specs.Tables.{live, any_on_file, any_on_stream, file_has_open, stream_has_open}
 
 -- no live open is on the file, on the stream
-pub unopened-file : (os : List Open) (f : FileNo) → file_has_open os f ≡ false → (i : ℕ) → open_used (open_at os i) ≡ true
+pub unopened_file : (os : List Open) (f : FileNo) → file_has_open os f ≡ false → (i : ℕ) → open_used (open_at os i) ≡ true
     → (open_at os i).file ≢ f
 unfolding any_on_file live open_used
-unopened-file os f h i u =
+unopened_file os f h i u =
     (fails_iff (file_iff (open_at os i).file f)).0 (none_kept_at open_used (λ o. eqb o.file.0 f.0) zero_open refl os h i u)
 
-pub unopened-stream : (os : List Open) (s : StreamNo) → stream_has_open os s ≡ false → (i : ℕ) → open_used (open_at os i) ≡ true
+pub unopened_stream_lem : (os : List Open) (s : StreamNo) → stream_has_open os s ≡ false → (i : ℕ) → open_used (open_at os i) ≡ true
     → (open_at os i).stream ≢ s
 unfolding any_on_stream live open_used
-unopened-stream os s h i u =
+unopened_stream_lem os s h i u =
     (fails_iff (stream_iff (open_at os i).stream s)).0 (none_kept_at open_used (λ o. eqb o.stream.0 s.0) zero_open refl os h i u)
 
 -- the streams of live opens are used, and of the same file

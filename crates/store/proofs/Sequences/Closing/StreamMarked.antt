@@ -1,10 +1,10 @@
 -- A close marks its stream: a named one, which has an open still.
-use Rattle.base.{specs.Base.{ℕ, ◌≡◌, Bool, true, false, not, ◌&&◌, List, ◌≢◌, get_or, set, count, zero_bare, Namespace, BareStream, bare_used, bare_at, StreamNo, Open}, proofs.Laws.{refl, sym, ◌∙◌, ap, ⊎_elim, not_both, or_right, length-set, count-places, set_cases}}
+use Rattle.base.{specs.Base.{ℕ, ◌≡◌, Bool, true, false, not, ◌&&◌, List, ◌≢◌, get_or, set, count, zero_bare, Namespace, BareStream, bare_used, bare_at, StreamNo, Open}, proofs.Laws.{refl, sym, ◌∙◌, ap, ⊎_elim, not_both, or_right, length-set, count_places, set_cases}}
 use lib.Seq.{get_or-set_other}
-use Rattle.consistency.{specs.{Good.StreamNamesDiffer, Relations.{stream_of, unnamed_of}, Slots.EveryTwo, Consistent.{open_at, GoodStreamOf, OpensConsistent, StreamsConsistent}}, proofs.{Derived.stream-good, Numbered.same-stream, Slots.slots_set}}
+use Rattle.consistency.{specs.{Good.StreamNamesDiffer, Relations.{stream_of, unnamed_of}, Slots.EveryTwo, Consistent.{open_at, GoodStreamOf, OpensConsistent, StreamsConsistent}}, proofs.{Derived.stream_good, Numbered.same-stream, Slots.slots_set}}
 use Rattle.stored_names.specs.StoredNames.{units}
 use Rattle.tables.specs.Tables.{file_has_open, stream_has_open}
-use Rattle.store.proofs.Sequences.Closing.{Facts.{AfterStrike, Settled, file_goes, stream_goes, stream-cases, stream-below, goes-named, marked_stream_held, files-held}, Opens.opens_still}
+use Rattle.store.proofs.Sequences.Closing.{Facts.{AfterStrike, Settled, file_goes, stream_goes, stream-cases, stream_below, goes_named, marked_stream_held, files_held}, Opens.opens_still}
 use Rattle.store.specs.Close.{stream_marked, marks_stream, marked_bare, namespace_after, files_after, links_after, streams_after}
 
 module _ {ns : Namespace} {next : ℕ} {os : List Open} {o : Open} (a : AfterStrike ns next os o)
@@ -26,11 +26,11 @@ module _ {ns : Namespace} {next : ℕ} {os : List Open} {o : Open} (a : AfterStr
         → q (get_or after i zero_bare) ≡ q (get_or ns.streams i zero_bare)
     each q stays i =
         ⊎_elim (λ c. ap q c.1 ∙ stays was ∙ ap (λ (j : ℕ). q (get_or ns.streams j zero_bare)) (sym c.0))
-        (λ c. ap q c.1) (set_cases ns.streams o.stream.0 i (marked_bare was) zero_bare (stream-below a))
+        (λ c. ap q c.1) (set_cases ns.streams o.stream.0 i (marked_bare was) zero_bare (stream_below a))
 
     counts : (q : BareStream → Bool) → ((x : BareStream) → q (marked_bare x) ≡ q x) → count q after ≡ count q ns.streams
     counts q stays =
-        count-places q zero_bare after ns.streams (length-set ns.streams o.stream.0 (marked_bare was)) (each q stays)
+        count_places q zero_bare after ns.streams (length-set ns.streams o.stream.0 (marked_bare was)) (each q stays)
 
     used : (x : BareStream) → bare_used (marked_bare x) ≡ bare_used x
     unfolding marked_bare bare_used
@@ -47,38 +47,38 @@ module _ {ns : Namespace} {next : ℕ} {os : List Open} {o : Open} (a : AfterStr
     good : GoodStreamOf ns.files (marked_bare was)
     unfolding marked_bare bare_at
     good =
-        let g = stream-good a.names.streams o.stream a.good.names_used_stream in
+        let g = stream_good a.names.streams o.stream a.good.names_used_stream in
         record {
           name_stored = g.name_stored;
           name_valid = g.name_valid;
           names_used_file = g.names_used_file;
           type_agrees = g.type_agrees;
-          marked_named = λ p. goes-named a goes;
+          marked_named = λ p. goes_named a goes;
         }
 
-    is-used : bare_used (marked_bare was) ≡ true
+    is_used_lem : bare_used (marked_bare was) ≡ true
     unfolding bare_at
-    is-used = used was ∙ a.good.names_used_stream
+    is_used_lem = used was ∙ a.good.names_used_stream
 
-    names-differ : EveryTwo bare_used zero_bare StreamNamesDiffer after
-    names-differ i j l u w e n =
+    names_differ_lem : EveryTwo bare_used zero_bare StreamNamesDiffer after
+    names_differ_lem i j l u w e n =
         a.names.streams.names_differ i j l (sym (each bare_used used i) ∙ u) (sym (each bare_used used j) ∙ w)
         (sym (each (λ x. x.file) file i) ∙ e ∙ each (λ x. x.file) file j)
         (sym (each (λ x. units x.name) name i) ∙ n ∙ each (λ x. units x.name) name j)
 
-    streams-after : StreamsConsistent ns.files after
+    streams_after_lem : StreamsConsistent ns.files after
     unfolding marked_bare stream_of unnamed_of bare_used
-    streams-after =
+    streams_after_lem =
         record {
-          slots = slots_set a.names.streams.slots o.stream.0 (marked_bare was) (λ u. good) (λ u. absurd (not_both is-used u));
+          slots = slots_set a.names.streams.slots o.stream.0 (marked_bare was) (λ u. good) (λ u. absurd (not_both is_used_lem u));
           one_unnamed = λ f u. counts (unnamed_of f) (λ x. refl) ∙ a.names.streams.one_unnamed f u;
           directories_have_one = λ f d. counts (stream_of f) (λ x. refl) ∙ a.names.streams.directories_have_one f d;
-          names_differ = names-differ;
+          names_differ = names_differ_lem;
         }
 
-    opens-after : OpensConsistent after next os
+    opens_after : OpensConsistent after next os
     unfolding bare_at
-    opens-after =
+    opens_after =
         opens_still after a.opens
         (λ i u.
         let s : StreamNo = (open_at os i).stream in
@@ -92,11 +92,11 @@ module _ {ns : Namespace} {next : ℕ} {os : List Open} {o : Open} (a : AfterStr
     unfolding namespace_after files_after links_after streams_after
     stream-marked =
         record {
-          names = record { files = a.names.files; links = a.names.links; streams = streams-after; marks = a.names.marks };
-          opens = opens-after;
+          names = record { files = a.names.files; links = a.names.links; streams = streams_after_lem; marks = a.names.marks };
+          opens = opens_after;
           held =
               record {
-                files = files-held a file_stays;
+                files = files_held a file_stays;
                 streams =
                     λ s p.
                     stream-cases s o.stream (λ e. ap (stream_has_open os) e ∙ marked_stream_held a stream_stays goes)

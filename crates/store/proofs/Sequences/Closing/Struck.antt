@@ -3,20 +3,20 @@ use Rattle.base.{specs.Base.{Permutation, any, open_used, zero_open, namespace, 
 use Rattle.consistency.{specs.Consistent.{Consistent, CountsTrue, GoodOpenOf, NoConflicts, open_at}, proofs.Numbered.{file_iff, stream_iff}}
 use Rattle.sharing.specs.Sharing.{without_open}
 use Rattle.tables.specs.Tables.{live, any_on_file, any_on_stream}
-use Rattle.store.proofs.Sequences.{Facts.namespace_of, Opens.{Close.{Struck, handle-used}, Counts.counts-left, Leave.{conflicts-left, left, left-live}, Names.{used-below, without_open_names}}, Closing.Facts.AfterStrike}
+use Rattle.store.proofs.Sequences.{Facts.namespace_of, Opens.{Close.{Struck, handle_used}, Counts.counts-left, Leave.{conflicts-left, left, left-live}, Names.{used_below, without_open_names}}, Closing.Facts.AfterStrike}
 use Rattle.store.specs.Store.{recount, struck, volume_without_open}
 
 module _ {t : Tables} (ok : Consistent t.volume t.opens) (h : Handle) (o : Open) (s : Struck h o t.opens.rows) where
   used : open_used (open_at t.opens.rows s.slot) ≡ true
-  used = ap open_used s.there ∙ handle-used h o s.has
+  used = ap open_used s.there ∙ handle_used h o s.has
 
   rows_left : (struck t o).opens.rows ≡ set t.opens.rows s.slot zero_open
   unfolding struck
   rows_left = s.rows
 
-  pub struck-names : namespace (struck t o).volume ≡ namespace t.volume
+  pub struck_names : namespace (struck t o).volume ≡ namespace t.volume
   unfolding struck
-  struck-names = without_open_names o t.volume
+  struck_names = without_open_names o t.volume
 
   -- the live opens are those that were, but for this one
   pub struck-live : Permutation (live t.opens.rows) (o ∷ live (struck t o).opens.rows)
@@ -43,7 +43,7 @@ module _ {t : Tables} (ok : Consistent t.volume t.opens) (h : Handle) (o : Open)
       (λ (q : Open). CountsTrue (recount (without_open q) q.stream t.volume.streams) (set t.opens.rows s.slot zero_open))
       s.there
       (counts-left t.volume.streams t.opens.rows s.slot s.below used
-      (used-below t.volume.streams (open_at t.opens.rows s.slot).stream
+      (used_below t.volume.streams (open_at t.opens.rows s.slot).stream
       (ok.opens.slots.used_good s.slot used).names_used_stream)
       ok.counts))
 
@@ -53,7 +53,7 @@ module _ {t : Tables} (ok : Consistent t.volume t.opens) (h : Handle) (o : Open)
   pub after_strike : AfterStrike (namespace (struck t o).volume) (struck t o).volume.next_handle.0 (struck t o).opens.rows o
   unfolding struck volume_without_open any_on_file any_on_stream namespace
   after_strike =
-      subst (λ (ns : Namespace). AfterStrike ns t.volume.next_handle.0 (struck t o).opens.rows o) (sym struck-names)
+      subst (λ (ns : Namespace). AfterStrike ns t.volume.next_handle.0 (struck t o).opens.rows o) (sym struck_names)
       (record {
         names = namespace_of ok;
         opens = rw rows_left (left ok.opens s.slot);

@@ -18,27 +18,27 @@ no_kind p q i h =
 
 module _ (more : ℕ) where
   -- over a kind: h that the other holds it, s that this one shares it, x the rest of the pair rule
-  over-more : (h s m x : Bool) → ((h && not s) || x) ≡ false → ((h && not (s || m)) || x) ≡ false
-  over-more true true m x e = e
-  over-more true false m x e = absurd (true≢false e)
-  over-more false s m x e = e
+  over_more : (h s m x : Bool) → ((h && not s) || x) ≡ false → ((h && not (s || m)) || x) ≡ false
+  over_more true true m x e = e
+  over_more true false m x e = absurd (true≢false e)
+  over_more false s m x e = e
 
-  shares-more : (k : Kind) (share : ℕ) → shares k (bit_or share more) ≡ (shares k share || shares k more)
+  shares_more : (k : Kind) (share : ℕ) → shares k (bit_or share more) ≡ (shares k share || shares k more)
   unfolding shares
-  shares-more k share = has_or share more (share_bit k)
+  shares_more k share = has_or share more (share_bit k)
 
-  conflict-more : (t u : Terms) → conflict t u ≡ false
+  conflict_more : (t u : Terms) → conflict t u ≡ false
       → conflict t (record { granted = u.granted; share = bit_or u.share more }) ≡ false
   unfolding conflict
-  conflict-more t u =
+  conflict_more t u =
       and_none (counted t.granted && counted u.granted)
       (no_kind _ _
       (λ k e.
-      rw (shares-more k u.share)
-      (over-more (holds k t.granted) (shares k u.share) (shares k more) (holds k u.granted && not (shares k t.share)) e)))
+      rw (shares_more k u.share)
+      (over_more (holds k t.granted) (shares k u.share) (shares k more) (holds k u.granted && not (shares k t.share)) e)))
 
   -- an open that shares more conflicts with no more
-  pub share-more : (s : StreamNo) (t : Terms) (os : List Open) → any_conflict s t os ≡ false
+  pub share_more : (s : StreamNo) (t : Terms) (os : List Open) → any_conflict s t os ≡ false
       → any_conflict s (record { granted = t.granted; share = bit_or t.share more }) os ≡ false
   unfolding any_conflict
-  share-more s t os = none_too _ _ (λ o. and_none (on_stream s o) (conflict-more (terms_of o) t)) os
+  share_more s t os = none_too _ _ (λ o. and_none (on_stream s o) (conflict_more (terms_of o) t)) os

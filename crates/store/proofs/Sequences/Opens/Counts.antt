@@ -2,7 +2,7 @@
 use Rattle.base.{specs.Base.{◌<◌, ℕ, any, BareStream, bare, with_counts, open_used, zero_counts, zero_open, zero_stream, Open, ShareCounts, Stream, StreamNo, get_or, length, set, false, not, true, List, [], ◌∷◌, map, ◌≡◌}, proofs.Laws.{set_cases, eq-eqb, ne_eqb, get_or_map, length-map, length-set, ⊎_elim, ◌∙◌, ap, refl, sym, arith}}
 use lib.Seq.{map-set_same}
 use Rattle.consistency.specs.Consistent.{CountsTrue, open_at}
-use Rattle.sharing.{proofs.Counts.{counts_cons, counts_less, counts_perm, counts-skip}, specs.Sharing.{counts_of, on_stream, with_open, without_open}}
+use Rattle.sharing.{proofs.Counts.{counts_cons, counts_less, counts_perm, counts_skip}, specs.Sharing.{counts_of, on_stream, with_open, without_open}}
 use Rattle.tables.specs.Tables.{stream_at, live}
 use Rattle.store.proofs.Sequences.Opens.{Join.joined-live, Leave.left-live}
 use Rattle.store.specs.Store.{recount, rows_with_open, write_streams}
@@ -41,7 +41,7 @@ counts-joined o ss os b u r =
     let p = joined-live o os r u in
     counts-recount (with_open o) o.stream ss os (rows_with_open o os) b
     (λ s e. sym (counts_perm p s ∙ counts_cons s o (live os) (on-stream s o e)))
-    (λ s n. sym (counts_perm p s ∙ counts-skip s o (live os) (off_stream s o n)))
+    (λ s n. sym (counts_perm p s ∙ counts_skip s o (live os) (off_stream s o n)))
 
 pub counts-left : (ss : List Stream) (os : List Open) (i : ℕ) → i < length os → open_used (open_at os i) ≡ true
     → (open_at os i).stream.0 < length ss
@@ -52,7 +52,7 @@ counts-left ss os i l u b =
     let p = left-live os i l u in
     counts-recount (without_open o) o.stream ss os (set os i zero_open) b
     (λ s e. ap (without_open o) (counts_perm p s) ∙ counts_less s o rest (on-stream s o e))
-    (λ s n. counts_perm p s ∙ counts-skip s o rest (off_stream s o n))
+    (λ s n. counts_perm p s ∙ counts_skip s o rest (off_stream s o n))
 
 -- a change leaves the counts of each slot
 counts_stay : (ws : List (StreamNo × BareStream)) (ss : List Stream)
@@ -61,10 +61,10 @@ unfolding write_streams with_counts stream_at
 counts_stay [] ss = refl
 counts_stay (w ∷ ws) ss = counts_stay ws _ ∙ map-set_same (λ (s : Stream). s.counts) ss w.0.0 _ zero_stream refl
 
-pub counts-written : (ws : List (StreamNo × BareStream)) (ss : List Stream) (os : List Open) → CountsTrue ss os
+pub counts_written : (ws : List (StreamNo × BareStream)) (ss : List Stream) (os : List Open) → CountsTrue ss os
     → CountsTrue (write_streams ws ss) os
 unfolding stream_at
-counts-written ws ss os c s l =
+counts_written ws ss os c s l =
     let same = counts_stay ws ss in
     let at : (ts : List Stream) → get_or (map (λ (t : Stream). t.counts) ts) s.0 zero_counts ≡ (get_or ts s.0 zero_stream).counts =
     λ ts. get_or_map (λ (t : Stream). t.counts) ts s.0 zero_stream in

@@ -1,5 +1,5 @@
 -- An open joins the table: it takes the lowest free slot.
-use Rattle.base.{specs.Base.{◌<◌, ◌≤◌, suc, ℕ, Permutation, any, BareStream, open_used, zero_open, Terms, terms_of, Handle, Open, StreamNo, length, set, ◌&&◌, false, not, true, List, ◌∷◌, Option, ◌≡◌}, proofs.Laws.{excluded, not_both, not_is, none_kept_at, after-found, found_iff, keep_set_in, eq-eqb, ne_eqb, not-true, ◌∙◌, ap, refl, sym, arith}}
+use Rattle.base.{specs.Base.{◌<◌, ◌≤◌, suc, ℕ, Permutation, any, BareStream, open_used, zero_open, Terms, terms_of, Handle, Open, StreamNo, length, set, ◌&&◌, false, not, true, List, ◌∷◌, Option, ◌≡◌}, proofs.Laws.{excluded, not_both, not_is, none_kept_at, after_found, found_iff, keep_set_in, eq-eqb, ne_eqb, not-true, ◌∙◌, ap, refl, sym, arith}}
 use Rattle.consistency.specs.Consistent.{NoConflicts, OpensConsistent, open_at}
 use Rattle.sharing.{proofs.PairRule.conflicting_sym, specs.Sharing.{any_conflict, conflict, conflicting, on_stream}}
 use Rattle.tables.specs.Tables.{live}
@@ -17,7 +17,7 @@ pub taken : (o : Open) (os : List Open) → any (λ q. not (open_used q)) os ≡
 unfolding rows_with_open stored
 taken o os h =
     let s = (found_iff (λ q. not (open_used q)) os).0 h in
-    let f = after-found (λ q. not (open_used q)) zero_open os 0 s.0 s.1 in
+    let f = after_found (λ q. not (open_used q)) zero_open os 0 s.0 s.1 in
     record {
       slot = s.0;
       below = f.below;
@@ -35,9 +35,9 @@ no_conflict_at s t os h i u e =
     (eq-eqb (open_at os i).stream.0 s.0 (ap (λ (n : StreamNo). n.0) e))
 
 -- it has a handle
-pub joins-used : {ss : List BareStream} {next : ℕ} {o : Open} → Joins ss next o → 1 ≤ next → open_used o ≡ true
+pub joins_used : {ss : List BareStream} {next : ℕ} {o : Open} → Joins ss next o → 1 ≤ next → open_used o ≡ true
 unfolding open_used
-joins-used {ss} {next} {o} j l = not_is (ne_eqb o.handle.0 0 (λ z. let w : ⊥ = omega (arith, j.handle) in w))
+joins_used {ss} {next} {o} j l = not_is (ne_eqb o.handle.0 0 (λ z. let w : ⊥ = omega (arith, j.handle) in w))
 
 -- the other opens have lower handles
 pub joined : {ss : List BareStream} {next : ℕ} {os : List Open} {o : Open} → OpensConsistent ss next os → Joins ss next o
@@ -46,7 +46,7 @@ pub joined : {ss : List BareStream} {next : ℕ} {os : List Open} {o : Open} →
 joined {ss} {next} {os} {o} c j r =
     let t = taken o os r in
     rw t.rows
-    (replaced c (omega arith) t.slot o (λ z. absurd (not_both (joins-used j c.next_at_least) z)) (λ u. j.good)
+    (replaced c (omega arith) t.slot o (λ z. absurd (not_both (joins_used j c.next_at_least) z)) (λ u. j.good)
     (λ i w u e. let z : ⊥ = omega (arith, ap (λ (h : Handle). h.0) e, j.handle, (c.slots.used_good i u).handle_below) in z))
 
 pub conflicts-joined : (o : Open) (os : List Open) → NoConflicts os

@@ -6,15 +6,15 @@ use Rattle.tables.specs.Tables.{stream_at}
 use Rattle.store.specs.{Complete.{Change, changed}, Store.{changed_volume, recount, volume_with_open, volume_without_open, write_streams}}
 
 -- a used stream stands below the end
-pub used-below : (ss : List Stream) (s : StreamNo) → bare_used (bare_at (map bare ss) s) ≡ true → s.0 < length ss
-used-below ss s u = omega (arith, stream_in (map bare ss) s u, length-map ss bare)
+pub used_below : (ss : List Stream) (s : StreamNo) → bare_used (bare_at (map bare ss) s) ≡ true → s.0 < length ss
+used_below ss s u = omega (arith, stream_in (map bare ss) s u, length-map ss bare)
 
 pub recount-bare : (f : ShareCounts → ShareCounts) (s : StreamNo) (ss : List Stream) → map bare (recount f s ss) ≡ map bare ss
 unfolding recount stream_at bare with_counts
 recount-bare f s ss = map-set_same bare ss s.0 _ zero_stream refl
 
 -- names do not look at share counts and the next handle: whatever these become, the names stay
-recounted-names : (f : ShareCounts → ShareCounts) (s : StreamNo) (next : Handle) (v : Volume)
+recounted_names : (f : ShareCounts → ShareCounts) (s : StreamNo) (next : Handle) (v : Volume)
     → Path Namespace
     (namespace
     (record {
@@ -26,7 +26,7 @@ recounted-names : (f : ShareCounts → ShareCounts) (s : StreamNo) (next : Handl
     }))
     (namespace v)
 unfolding namespace
-recounted-names f s next v =
+recounted_names f s next v =
     ap
     (λ (bs : List BareStream).
     record { read_only = v.read_only; files = v.files; links = v.links; streams = bs })
@@ -34,11 +34,11 @@ recounted-names f s next v =
 
 pub with_open_names : (o : Open) (v : Volume) → namespace (volume_with_open o v) ≡ namespace v
 unfolding volume_with_open
-with_open_names o v = recounted-names _ _ _ v
+with_open_names o v = recounted_names _ _ _ v
 
 pub without_open_names : (o : Open) (v : Volume) → namespace (volume_without_open o v) ≡ namespace v
 unfolding volume_without_open
-without_open_names o v = recounted-names _ _ _ v
+without_open_names o v = recounted_names _ _ _ v
 
 -- the streams that a change writes, without their counts
 pub written_bare : (ws : List (StreamNo × BareStream)) (ss : List Stream)
@@ -48,9 +48,9 @@ written_bare [] ss = refl
 written_bare (w ∷ ws) ss =
     written_bare ws _ ∙ ap (λ (bs : List BareStream). writes (λ (n : StreamNo). n.0) ws bs) (map-set bare ss w.0.0 _)
 
-pub changed-names : (c : Change) (v : Volume) → namespace (changed_volume c v) ≡ changed c (namespace v)
+pub changed_names : (c : Change) (v : Volume) → namespace (changed_volume c v) ≡ changed c (namespace v)
 unfolding namespace changed_volume changed
-changed-names c v =
+changed_names c v =
     ap
     (λ (bs : List BareStream).
     record {
