@@ -9,23 +9,23 @@ use crate::sizes::{
 };
 
 // A slot of the files table. File 0 is the root.
-#[derive(Drop)]
+#[derive(Clone, Copy)]
 pub struct FileNo(pub u16);
 
 // A slot of the links table.
-#[derive(Drop)]
+#[derive(Clone, Copy)]
 pub struct LinkNo(pub u16);
 
 // A slot of the streams table.
-#[derive(Drop)]
+#[derive(Clone, Copy)]
 pub struct StreamNo(pub u16);
 
 // The number of an open. It is taken from the volume's next handle, never from a slot.
-#[derive(Drop)]
+#[derive(Clone, Copy)]
 pub struct Handle(pub u64);
 
 // What a file or a stream is. A free slot of their tables is Unused.
-#[derive(Drop)]
+#[derive(Clone, Copy)]
 pub enum FileType {
     Unused,
     Data,
@@ -33,7 +33,7 @@ pub enum FileType {
 }
 
 // A file, with one access mask for each account. `delete_pending` marks one that goes with its last open.
-#[derive(Drop)]
+#[derive(Clone, Copy)]
 pub struct File {
     pub file_type: FileType,
     pub attributes: u32,
@@ -42,7 +42,7 @@ pub struct File {
 }
 
 // A name of a file in its parent directory. Units past the name are zero; a free slot has no name.
-#[derive(Drop)]
+#[derive(Clone, Copy)]
 pub struct Link {
     pub parent: FileNo,
     pub name: [u16; FILE_NAME_LIMIT],
@@ -51,7 +51,7 @@ pub struct Link {
 
 // The share counts of a stream (the paper's tallies): its counted opens, those that read, write and delete, and those
 // that share reading, writing and deleting.
-#[derive(Drop)]
+#[derive(Clone, Copy)]
 pub struct ShareCounts {
     pub opens: u16,
     pub readers: u16,
@@ -63,7 +63,7 @@ pub struct ShareCounts {
 }
 
 // A stream of a file. A named one may be marked by itself.
-#[derive(Drop)]
+#[derive(Clone, Copy)]
 pub struct Stream {
     pub file: FileNo,
     pub stream_type: FileType,
@@ -73,7 +73,7 @@ pub struct Stream {
 }
 
 // An open. A free slot has handle 0. `delete_on_close` says that its close marks its file, or its named stream.
-#[derive(Drop)]
+#[derive(Clone, Copy)]
 pub struct Open {
     pub handle: Handle,
     pub file: FileNo,
@@ -100,7 +100,7 @@ pub struct OpenTable {
 }
 
 // What an open asks, besides its path. `fold` says that a to z match A to Z.
-#[derive(Drop)]
+#[derive(Clone, Copy)]
 pub struct Request {
     pub account: u32,
     pub access: u32,
@@ -112,7 +112,7 @@ pub struct Request {
 }
 
 // What an open did.
-#[derive(Drop)]
+#[derive(Clone, Copy)]
 pub enum CreateAction {
     Superseded,
     Opened,
@@ -121,7 +121,7 @@ pub enum CreateAction {
 }
 
 // Why a call was refused.
-#[derive(Drop)]
+#[derive(Clone, Copy)]
 pub enum Status {
     FileCorruptError,
     InvalidParameter,
@@ -143,7 +143,7 @@ pub enum Status {
 }
 
 // How a call ended. An open succeeds with its action and its handle; format, close and set_read_only are done.
-#[derive(Drop)]
+#[derive(Clone, Copy)]
 pub enum Outcome {
     Success(CreateAction, Handle),
     Done,
@@ -151,7 +151,7 @@ pub enum Outcome {
 }
 
 // A call's answer: its outcome, and the access granted.
-#[derive(Drop)]
+#[derive(Clone, Copy)]
 pub struct Answer {
     pub outcome: Outcome,
     pub granted: u32,

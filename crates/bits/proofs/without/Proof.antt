@@ -5,7 +5,7 @@ use Rattle.bits.proofs.without.Statement.{statement}
 use Rattle.bits.specs.Bits.{without}
 use Rattle.bits.proofs.without.Tie as tie
 
-sub-result : tie.Need-overflow-sub-result
+sub-result : tie.Need-overflow_sub-result
 sub-result c = and_le_l c.args.a c.args.m
 
 returns : tie.Need-returns
