@@ -1,5 +1,7 @@
 // Values in bytes: what a form is, how forms are put together, and the laws that every form put together so has. The code
 // reads and writes rows of numbers, of any length.
+#![tactic(auto)]
+
 ghost use Rattle.std.specs.Prelude.{◌≡◌, ◌+◌, ◌*◌, ◌≤◌, length};
 ghost use Rattle.little_endian.specs.LittleEndian.{part};
 ghost use Rattle.little_endian.specs.Writes.{Wrote};

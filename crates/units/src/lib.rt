@@ -1,4 +1,6 @@
 // Comparison of UTF-16 units, exactly or with a to z folded to A to Z.
+#![tactic(auto)]
+
 ghost use Rattle.std.specs.Prelude.{◌≡◌};
 ghost use Rattle.units.specs.Units.{upper, folded, equal_units};
 
