@@ -11,7 +11,7 @@ use records::{File, FileType};
 const WRITES: u32 = 0x6;
 
 // What the access rule answers: the access granted, or a refusal.
-#[derive(Drop)]
+#[derive(Clone, Copy)]
 pub enum Access {
     Granted(u32),
     Denied,

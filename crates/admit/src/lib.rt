@@ -30,7 +30,7 @@ use records_volume::read_mark;
 use request_checks::{deletes_on_close, only_opens, wants_directory};
 
 // What an open is granted on a file, or why it is refused.
-#[derive(Drop)]
+#[derive(Clone, Copy)]
 pub enum CheckedAccess {
     Refused(Status),
     Granted(u32),

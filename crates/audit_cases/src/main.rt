@@ -39,7 +39,7 @@ use records_volume::write_next;
 const WORDS: usize = 12;
 
 // What has been read of a change: its letter, its words, the one that is being read, and the units of a name, once it has begun.
-#[derive(Drop)]
+#[derive(Clone, Copy)]
 struct Change {
     table: u8,
     words: [u32; WORDS],

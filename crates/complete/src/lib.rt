@@ -29,7 +29,7 @@ use records_volume::read_next;
 use sharing::share_check;
 
 // The open's row and handle, or that it has none.
-#[derive(Drop)]
+#[derive(Clone, Copy)]
 enum OpenPlace {
     Refused(Status),
     At(usize, Handle),
@@ -52,7 +52,7 @@ fn open_place(b: &[u8]) -> OpenPlace
 }
 
 // The sharing mode that an open is stored and counted with, or a refusal.
-#[derive(Drop)]
+#[derive(Clone, Copy)]
 enum SharingMode {
     Refused(Status),
     Mode(u32),
@@ -159,7 +159,7 @@ fn complete_stream(b: &[u8], deletes: bool, s: StreamToAdd) -> DecidedOpen
 }
 
 // The slots that a new file takes, or that there are too few.
-#[derive(Drop)]
+#[derive(Clone, Copy)]
 enum FilePlace {
     Full,
     At(FileSlots),

@@ -5,7 +5,7 @@ ghost use Rattle.components.specs.Positions.{place_of, place_after, next_compone
 const BACKSLASH: u16 = 0x5C;
 
 // A part of a path, from one place up to another.
-#[derive(Drop)]
+#[derive(Clone, Copy)]
 pub struct Part {
     pub start: usize,
     pub end: usize,

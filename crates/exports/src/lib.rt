@@ -14,14 +14,14 @@ use records::{Handle, Request};
 use reply_numbers::{action_of, handle_of, status_of};
 
 // A path as units, and how many they are.
-#[derive(Drop)]
+#[derive(Clone, Copy)]
 pub struct PathUnits {
     pub units: [u16; 256],
     pub count: usize,
 }
 
 // Masks, and how many they are.
-#[derive(Drop)]
+#[derive(Clone, Copy)]
 pub struct Masks {
     pub masks: [u32; 8],
     pub count: usize,

@@ -12,19 +12,19 @@ use records_links::read_link_used;
 use records_streams::read_stream_type;
 
 // What a search for a free slot finds: the lowest one, or that the table is full.
-#[derive(Drop)]
+#[derive(Clone, Copy)]
 pub enum FileSlot {
     At(FileNo),
     Full,
 }
 
-#[derive(Drop)]
+#[derive(Clone, Copy)]
 pub enum LinkSlot {
     At(LinkNo),
     Full,
 }
 
-#[derive(Drop)]
+#[derive(Clone, Copy)]
 pub enum StreamSlot {
     At(StreamNo),
     Full,

@@ -19,7 +19,7 @@ pub const EDITION: u16 = 1;
 pub const IMAGE_BLOCKS: usize = 1 + FILE_SLOTS + LINK_SLOTS + STREAM_SLOTS;
 
 // Which record of the tables a block holds, by its slot.
-#[derive(Drop)]
+#[derive(Clone, Copy)]
 pub enum BlockRecord {
     Header,
     FileSlot(usize),

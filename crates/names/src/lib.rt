@@ -10,7 +10,7 @@ use records::sizes::{FILE_NAME_LIMIT, STREAM_NAME_LIMIT};
 const DOT: u16 = 0x2E;
 
 // Whose name it is.
-#[derive(Drop)]
+#[derive(Clone, Copy)]
 pub enum NameKind {
     FileName,
     StreamName,

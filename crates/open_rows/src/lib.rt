@@ -17,7 +17,7 @@ use records_opens::read_open;
 use sharing::conflicting;
 
 // What a row is searched for: an open's handle, or the terms that an open on a stream is to conflict with.
-#[derive(Drop)]
+#[derive(Clone, Copy)]
 pub enum Sought {
     WithHandle(Handle),
     Conflicting(StreamNo, u32, u32),

@@ -4,21 +4,21 @@ use paths::LeafParts;
 use records::{CreateAction, FileNo, FileType, Handle, LinkNo, Status, StreamNo};
 
 // The link that names a file where a path leads to it. The root has none.
-#[derive(Drop)]
+#[derive(Clone, Copy)]
 pub enum NamedBy {
     Nothing,
     Link(LinkNo),
 }
 
 // A file that a path leads to.
-#[derive(Drop)]
+#[derive(Clone, Copy)]
 pub struct FoundFile {
     pub link: NamedBy,
     pub file: FileNo,
 }
 
 // Steps 1 to 8: a stream that is there, what is missing, or a refusal.
-#[derive(Drop)]
+#[derive(Clone, Copy)]
 pub enum FoundTarget {
     Refused(Status),
     Directory(FoundFile, StreamNo),
@@ -28,7 +28,7 @@ pub enum FoundTarget {
 }
 
 // What step 10 does to a directory's open when the directory has no open at all.
-#[derive(Drop)]
+#[derive(Clone, Copy)]
 pub enum SharingRule {
     AsOffered,
     AddedIfAlone,
@@ -36,14 +36,14 @@ pub enum SharingRule {
 }
 
 // Whether an open gives its file new attributes.
-#[derive(Drop)]
+#[derive(Clone, Copy)]
 pub enum NewAttributes {
     Kept,
     Set(u32),
 }
 
 // An open of a stream that is there: it goes to the sharing check.
-#[derive(Drop)]
+#[derive(Clone, Copy)]
 pub struct ExistingOpen {
     pub file: FileNo,
     pub stream: StreamNo,
@@ -55,7 +55,7 @@ pub struct ExistingOpen {
 }
 
 // A stream to add to a file, whose attributes become these.
-#[derive(Drop)]
+#[derive(Clone, Copy)]
 pub struct StreamToAdd {
     pub file: FileNo,
     pub leaf: LeafParts,
@@ -65,7 +65,7 @@ pub struct StreamToAdd {
 }
 
 // A file to add to a directory, of which it copies the masks.
-#[derive(Drop)]
+#[derive(Clone, Copy)]
 pub struct FileToAdd {
     pub dir: FileNo,
     pub leaf: LeafParts,
@@ -76,7 +76,7 @@ pub struct FileToAdd {
 }
 
 // Steps 9 to 11: an open that no step before the sharing check refuses reaches that check, or it has none.
-#[derive(Drop)]
+#[derive(Clone, Copy)]
 pub enum PendingOpen {
     Refused(Status),
     Existing(ExistingOpen),
@@ -85,7 +85,7 @@ pub enum PendingOpen {
 }
 
 // The slots of a new file, its link and its streams: the one without a name, and the one that is opened.
-#[derive(Drop)]
+#[derive(Clone, Copy)]
 pub struct FileSlots {
     pub file: FileNo,
     pub link: LinkNo,
@@ -94,7 +94,7 @@ pub struct FileSlots {
 }
 
 // What an accepted open changes or adds, and where.
-#[derive(Drop)]
+#[derive(Clone, Copy)]
 pub enum PlacedOpen {
     Existing(FileNo, StreamNo, NewAttributes),
     NewStream(StreamToAdd, StreamNo),
@@ -102,7 +102,7 @@ pub enum PlacedOpen {
 }
 
 // An accepted open, with the row that it takes.
-#[derive(Drop)]
+#[derive(Clone, Copy)]
 pub struct AcceptedOpen {
     pub action: CreateAction,
     pub placed: PlacedOpen,
@@ -114,7 +114,7 @@ pub struct AcceptedOpen {
 }
 
 // The sharing check and step 12.
-#[derive(Drop)]
+#[derive(Clone, Copy)]
 pub enum DecidedOpen {
     Refused(Status),
     Accepted(AcceptedOpen),

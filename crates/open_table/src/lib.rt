@@ -10,7 +10,7 @@ use records_opens::{read_handle, read_open_file, read_open_stream};
 
 // What a search for a row finds: the lowest one, or, as `Full`, that there is none. A row has no number of its own kind:
 // handles come from elsewhere.
-#[derive(Drop)]
+#[derive(Clone, Copy)]
 pub enum OpenSlot {
     At(usize),
     Full,

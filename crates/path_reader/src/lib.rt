@@ -6,14 +6,14 @@ ghost use Rattle.path_reader.specs.Reading.{reader_at, step_of};
 
 use components::{Part, next_component};
 
-#[derive(Drop)]
+#[derive(Clone, Copy)]
 pub struct PathReader<'a> {
     pub units: &'a [u16],
     pub at: usize,
 }
 
 // A component, and the reader after it. Where none is left, the component is empty and both stand at the end.
-#[derive(Drop)]
+#[derive(Clone, Copy)]
 pub struct Step<'a> {
     pub component: Part,
     pub reader: PathReader<'a>,

@@ -16,7 +16,7 @@ const BACKSLASH: u16 = 0x5C;
 const COLON: u16 = 0x3A;
 
 // A path's last component: where its file name and its stream name stand, and whether it has a colon.
-#[derive(Drop)]
+#[derive(Clone, Copy)]
 pub struct LeafParts {
     pub file: Part,
     pub stream: Part,
@@ -24,7 +24,7 @@ pub struct LeafParts {
 }
 
 // A path taken apart: refused with OBJECT_NAME_INVALID, without a component, or by its last component.
-#[derive(Drop)]
+#[derive(Clone, Copy)]
 pub enum ParsedPath {
     Invalid,
     Root,

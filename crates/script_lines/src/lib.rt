@@ -22,21 +22,21 @@ const SPACE: u8 = 0x20;
 const LINE_END: u8 = 0x0A;
 
 // A number that stands at a place, and the place after it.
-#[derive(Drop)]
+#[derive(Clone, Copy)]
 enum FoundNumber {
     None,
     At(u64, usize),
 }
 
 // A number of 32 bits with a space after it, and the place after that.
-#[derive(Drop)]
+#[derive(Clone, Copy)]
 enum FoundField {
     None,
     At(u32, usize),
 }
 
 // What a line asks. The path of an open is what stands from the place on.
-#[derive(Drop)]
+#[derive(Clone, Copy)]
 pub enum AskedLine {
     Unknown,
     Open(Request, usize),
@@ -44,14 +44,14 @@ pub enum AskedLine {
 }
 
 // A path as units, and how many they are.
-#[derive(Drop)]
+#[derive(Clone, Copy)]
 pub struct PathUnits {
     pub units: [u16; LINE_LIMIT],
     pub count: usize,
 }
 
 // What is printed, and how many bytes that is.
-#[derive(Drop)]
+#[derive(Clone, Copy)]
 pub struct Printed {
     pub bytes: [u8; 32],
     pub count: usize,

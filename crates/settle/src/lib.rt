@@ -22,7 +22,7 @@ use records_streams::{
 use stored_names::unit_at;
 
 // What a close does to the file or the stream of its open.
-#[derive(Drop)]
+#[derive(Clone, Copy)]
 pub enum CloseEffect {
     Unchanged,
     FileMarked(FileNo),

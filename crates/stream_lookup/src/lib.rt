@@ -12,7 +12,7 @@ use records_streams::{read_stream, read_stream_file, read_stream_type};
 use stored_names::name_equals;
 
 // What a search for a stream finds.
-#[derive(Drop)]
+#[derive(Clone, Copy)]
 pub enum FoundStream {
     At(StreamNo),
     Missing,

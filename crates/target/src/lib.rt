@@ -56,7 +56,7 @@ fn target_new(b: &[u8], r: Request, dir: FileNo, leaf: LeafParts) -> FoundTarget
 }
 
 // Step 8: what was found is of the type asked for, or the step refuses.
-#[derive(Drop)]
+#[derive(Clone, Copy)]
 enum TypeCheck {
     Passed,
     Refused(Status),
