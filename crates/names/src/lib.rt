@@ -1,4 +1,6 @@
 // Which names are valid (step 4).
+#![tactic(auto)]
+
 ghost use Rattle.std.specs.Prelude.{◌≡◌, ◌||◌, ◌∷◌, []};
 ghost use Rattle.lists.specs.Lists.{same};
 ghost use Rattle.records.specs.Sizes.{file_name_limit, stream_name_limit};

@@ -1,8 +1,7 @@
--- `names::valid_unit` meets its contract: its comparisons are the signs of `forbidden`, the backslash and the colon.
-use Rattle.base.{specs.Base.{◌≡◌, Bool, true, false, not, ◌&&◌, ◌||◌, any, eqb, leb, one_of}, proofs.Laws.{refl, needs}}
-use Rattle.names.proofs.valid_unit.Statement.{statement}
+-- Its comparisons are the signs of `forbidden`, the backslash and the colon.
+use Rattle.base.{specs.Base.{◌≡◌, Bool, true, false, not, ◌&&◌, ◌||◌, any, eqb, leb, one_of}, proofs.Laws.{refl}}
 use Rattle.names.specs.Names.{lowest_unit, valid_unit}
-use Rattle.names.proofs.valid_unit.Tie as tie
+use Rattle.names.proofs.valid_unit.Goals as goal
 
 -- each sign by itself, and all of them at once
 each_sign : (low s1 s2 s3 s4 s5 s6 s7 s8 s9 : Bool)
@@ -19,12 +18,9 @@ each_sign true false false false false false false false true s9 = refl
 each_sign true false false false false false false false false true = refl
 each_sign true false false false false false false false false false = refl
 
-returns : tie.Need-returns
+pub returns : goal.returns
 unfolding valid_unit one_of any
 returns c =
-    let u = c.before.args.unit in
-    rw c.lowest-unit.ensures
-    (each_sign (leb (lowest_unit c.before.args.kind) u) (eqb u 0x22) (eqb u 0x2A) (eqb u 0x2F) (eqb u 0x3C) (eqb u 0x3E) (eqb u 0x3F) (eqb u 0x7C) (eqb u 0x5C) (eqb u 0x3A))
-
-pub valid_unit_spec : {M : Type 1} → statement M
-valid_unit_spec = tie.close (tie.spec (λ c κs. search needs) returns)
+    let u = c.args.unit in
+    rw c.lowest_unit.ensures
+    (each_sign (leb (lowest_unit c.args.kind) u) (eqb u 0x22) (eqb u 0x2A) (eqb u 0x2F) (eqb u 0x3C) (eqb u 0x3E) (eqb u 0x3F) (eqb u 0x7C) (eqb u 0x5C) (eqb u 0x3A))
