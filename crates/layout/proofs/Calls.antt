@@ -1,8 +1,8 @@
 -- A call on lent bytes, by what they stand for.
-use Rattle.base.{specs.Base.{ℕ, ◌≡◌, true, false, List, refuse_if, ◌>>◌, concluded, Tables, Step, refused_reply, FileCorruptError}, proofs.Laws.{sym, ◌∙◌, ap}}
+use Rattle.base.{specs.Base.{ℕ, ◌≡◌, true, false, List, refuse_if, ◌>>◌, concluded, Tables, Step, refused_reply, FileCorruptError}, proofs.Laws.{sym, ◌∙◌}}
 use Rattle.little_endian.specs.LittleEndian.{Bytes}
 use Rattle.layout.proofs.Tables.{decode-encode, encode-decode, encode_stands}
-use Rattle.layout.specs.{Layout.{encode, decode, stands_for_tables, Changed}, Fits.TablesFit, Calls.{in_bytes, on_bytes}}
+use Rattle.layout.specs.{Layout.{decode, stands_for_tables, Changed}, Fits.TablesFit, Calls.{in_bytes, on_bytes}}
 
 module _ (call : Tables → Step Tables) (bs : List ℕ) where
   -- bytes that stand for no tables are left

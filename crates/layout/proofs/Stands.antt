@@ -1,5 +1,5 @@
 -- What stands for tables, by its tests: the read-only mark, the kinds of files and streams, the marks of records.
-use Rattle.base.{specs.Base.{ℕ, ◌+◌, ◌*◌, ◌<◌, ◌≤◌, ◌≡◌, Bool, true, ◌&&◌, List, eqb, ltb, length, take, drop, accounts, file_name_limit, stream_name_limit, file_slots, link_slots, stream_slots, open_slots}, proofs.Laws.{refl, ◌∙◌, ap, ap₂, arith}}
+use Rattle.base.{specs.Base.{ℕ, ◌+◌, ◌*◌, ◌<◌, ◌≡◌, Bool, true, ◌&&◌, List, eqb, ltb, length, take, drop, file_name_limit, file_slots, link_slots, stream_slots, open_slots}, proofs.Laws.{refl, ◌∙◌, ap, arith}}
 use lib.Seq.{drop-drop}
 use native.Mathlib.Nat.{add_assoc}
 use Rattle.codecs.{specs.Codec.{number, row_stands}, proofs.{Fields.part-part, Standing.all_stand}}

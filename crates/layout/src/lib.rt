@@ -1,5 +1,7 @@
 // The tables in bytes (docs/LAYOUT.md): where each field stands, what the bytes stand for, and the sizes and places by
 // name for the code above.
+#![tactic(auto)]
+
 ghost use Rattle.std.specs.Prelude.{◌≡◌};
 ghost use Rattle.layout.specs.Kinds.{kind_of, kind_number, mark_number};
 
