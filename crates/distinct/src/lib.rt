@@ -1,5 +1,7 @@
 // Whether the keys of a row are distinct, in one pass: each key is compared only with those before it in its bucket. A
 // number that is 0 is no key, as a free slot has none. A row longer than the buckets' arrays hold is compared by pairs.
+#![tactic(auto)]
+
 ghost use Rattle.std.specs.Prelude.{◌<◌, ◌≡◌, get_or};
 ghost use Rattle.lists.specs.Lists.{keep, pairs};
 ghost use Rattle.distinct.specs.Keys.{is_key, differ};
