@@ -1,4 +1,6 @@
 // The components of a path, and the units between two places (step 4). A place is a number of units from the path's start.
+#![tactic(auto)]
+
 ghost use Rattle.std.specs.Prelude.{◌≡◌, take};
 ghost use Rattle.components.specs.Positions.{place_of, place_after, next_component, part_of};
 

@@ -1,0 +1,11 @@
+-- The loop's invariant: the place sought is not before i.
+use Rattle.base.{specs.Base.{◌-◌, length}}
+use Rattle.components.proofs.{Leading.{Seeking}}
+use Rattle.components.specs.Positions.{is_sign}
+use Rattle.components.proofs.skip_sign.Given as goal
+
+abbrev pub invariant-loop-i : goal.invariant-loop-i
+invariant-loop-i l = Seeking (is_sign l.sign) l.units l.at l.i
+
+abbrev pub decreases-loop-i : goal.decreases-loop-i
+decreases-loop-i l = length l.units - l.i
