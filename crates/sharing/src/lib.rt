@@ -1,5 +1,7 @@
 // The sharing rule: when two opens of a stream conflict, the share counts of a stream, and the share check that decides
 // from them.
+#![tactic(auto)]
+
 ghost use Rattle.std.specs.Prelude.{◌≡◌, cond, not, ◌&&◌, ◌||◌, [], ◌∷◌, ◌-◌, eqb, ltb};
 ghost use Rattle.bits.specs.Bits.{has};
 ghost use Rattle.sharing.specs.Sharing.{counted, conflicting, share_check};

@@ -1,0 +1,8 @@
+-- The test decides.
+use Rattle.sharing.proofs.one_if_has.Goals as goal
+
+pub returns-then-has : goal.returns-then-has
+returns-then-has c = rw (← c.has.ensures, c.if-has.true)
+
+pub returns-else-has : goal.returns-else-has
+returns-else-has c = rw (← c.has.ensures, c.if-has.false)
