@@ -1,4 +1,6 @@
 // The volume's read-only mark and next handle in the lent bytes.
+#![tactic(auto)]
+
 ghost use Rattle.std.specs.Prelude.{◌≡◌, length};
 ghost use Rattle.layout.specs.Layout.{tables_size, decode, Changed};
 ghost use Rattle.layout.specs.Puts.{put_mark, put_next};
