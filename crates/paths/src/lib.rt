@@ -1,4 +1,6 @@
 // Paths: how one is taken apart (step 4 of an open). A place is a number of units from the path's start.
+#![tactic(auto)]
+
 ghost use Rattle.std.specs.Prelude.{◌≡◌, true, ◌∷◌};
 ghost use Rattle.units.specs.Units.{backslash, colon, data_type, equal_units};
 ghost use Rattle.components.specs.Components.{components, split};
