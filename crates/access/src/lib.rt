@@ -1,4 +1,6 @@
 // The access rule: what an account may do with a file.
+#![tactic(auto)]
+
 ghost use Rattle.std.specs.Prelude.{◌≡◌};
 ghost use Rattle.records.specs.Slots.{is_data, mask_of};
 ghost use Rattle.access.specs.Access.{effective, need, access_from, access_rule};
