@@ -1,5 +1,7 @@
 // A reader of a path's components (step 6), which holds the lent units and its place. The functions over it are thin: each
 // takes the reader apart or puts it together, and `components::next_component` on units and place does the work.
+#![tactic(auto)]
+
 ghost use Rattle.std.specs.Prelude.{◌≡◌};
 ghost use Rattle.components.specs.Positions.{next_component};
 ghost use Rattle.path_reader.specs.Reading.{reader_at, step_of};
