@@ -1,4 +1,6 @@
 // An answer in numbers: document 01's for each status and action, the handle, and the access granted.
+#![tactic(auto)]
+
 ghost use Rattle.std.specs.Prelude.{◌≡◌};
 ghost use Rattle.records.specs.Numbers.{status_number, action_number};
 ghost use Rattle.reply_numbers.specs.Numbers.{answer_seen, action_or};
@@ -8,6 +10,7 @@ use records::{Answer, CreateAction, Outcome, Status};
 // What stands where a call has no action.
 const NO_ACTION: u32 = 0xFFFF_FFFF;
 
+#[tactic(auto, unfolding(records::specs::Numbers::status_number))]
 pub fn status_number(s: Status) -> u32
     ensures { result ≡ status_number s }
 {
@@ -33,6 +36,7 @@ pub fn status_number(s: Status) -> u32
 }
 
 // Success is 0.
+#[tactic(auto, unfolding(records::specs::Numbers::seen))]
 pub fn status_of(a: Answer) -> u32
     ensures { result ≡ (answer_seen a).status }
 {
@@ -44,6 +48,7 @@ pub fn status_of(a: Answer) -> u32
     }
 }
 
+#[tactic(auto, unfolding(records::specs::Numbers::action_number))]
 fn action_number(a: CreateAction) -> u32
     ensures { result ≡ action_number a }
 {
@@ -55,6 +60,7 @@ fn action_number(a: CreateAction) -> u32
     }
 }
 
+#[tactic(auto, unfolding(records::specs::Numbers::seen, crate::specs::Numbers::action_or))]
 pub fn action_of(a: Answer) -> u32
     ensures { result ≡ action_or (answer_seen a).action }
 {
@@ -67,6 +73,7 @@ pub fn action_of(a: Answer) -> u32
 }
 
 // Only an open that succeeds has one that is not 0.
+#[tactic(auto, unfolding(records::specs::Numbers::seen))]
 pub fn handle_of(a: Answer) -> u64
     ensures { result ≡ (answer_seen a).handle }
 {
