@@ -1,4 +1,6 @@
 // Names as they stand in a record, zeros after the last unit. A name is lent, whatever its places.
+#![tactic(auto)]
+
 ghost use Rattle.std.specs.Prelude.{◌≡◌, length, get_or, take, replicate};
 ghost use Rattle.lists.specs.Lists.{same, padded};
 ghost use Rattle.records.specs.Sizes.{file_name_limit};
