@@ -1,5 +1,7 @@
 // The opens in the lent bytes: each read and written by its row. A row past the table's end reads as a free one, and
 // nothing is written there.
+#![tactic(auto)]
+
 ghost use Rattle.std.specs.Prelude.{◌≡◌, ◌+◌, ◌≤◌, length};
 ghost use Rattle.little_endian.specs.LittleEndian.{part};
 ghost use Rattle.little_endian.specs.Writes.{Wrote};
