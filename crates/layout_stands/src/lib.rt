@@ -1,4 +1,6 @@
 // Whether lent bytes stand for tables at all: as many as the tables have, with kinds and marks that there are.
+#![tactic(auto)]
+
 ghost use Rattle.std.specs.Prelude.{◌≡◌, ◌+◌, ◌≤◌, length, drop};
 ghost use Rattle.little_endian.specs.LittleEndian.{part};
 ghost use Rattle.codecs.specs.Codec.{row_stands};
