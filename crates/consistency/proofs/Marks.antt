@@ -1,5 +1,5 @@
 -- The marks of what goes with its last open: the test answers true exactly when the statements hold.
-use Rattle.base.{specs.Base.{ℕ, ◌≡◌, true, false, List, ◌↔◌, ◌≢◌, eqb, root, zero_file, BareStream, zero_bare, bare_at, FileNo, StreamNo, File, Link, Open}, proofs.Laws.{refl, ◌∙◌, ap, not_both, by_cases, and_iff, not_iff, guard_iff, fails_iff}}
+use Rattle.base.{specs.Base.{ℕ, ◌≡◌, true, false, List, ◌↔◌, ◌≢◌, root, zero_file, BareStream, zero_bare, bare_at, FileNo, File, Link, Open}, proofs.Laws.{refl, ◌∙◌, ap, not_both, by_cases, and_iff, not_iff, guard_iff, fails_iff}}
 use Rattle.tables.specs.Tables.{file_at, file_has_open, stream_has_open}
 use Rattle.consistency.proofs.Numbered.{file_iff, each_iff}
 use Rattle.consistency.specs.{Relations.has_children, Consistent.{MarksConsistent, MarksHeld}, Test.{file_mark_test, stream_mark_test, marks_test}}
