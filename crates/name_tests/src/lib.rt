@@ -1,5 +1,7 @@
 // The tests of a name in a used slot. Each goes through all places without a branch on a unit, so that it is compiled to
 // instructions that take eight of them at once. A name is lent, whatever its places.
+#![tactic(auto)]
+
 ghost use Rattle.std.specs.Prelude.{◌≡◌, cond, ◌||◌, ◌∷◌, [], eqb};
 ghost use Rattle.lists.specs.Lists.{all, same};
 ghost use Rattle.units.specs.Units.{dot};
