@@ -1,5 +1,7 @@
 // A key for a name in a place, from the number of a directory or a file and the bytes of the name's units. Names with
 // different keys differ, so that only those whose keys agree need comparing.
+#![tactic(auto)]
+
 ghost use Rattle.std.specs.Prelude.{◌≡◌, ◌≤◌};
 ghost use Rattle.name_keys.specs.NameKeys.{weighed, stored_key};
 
