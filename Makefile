@@ -12,7 +12,7 @@
 IN ?= examples/lesson.txt
 PREFIX ?= /usr/local
 VERSION = 0.1
-SOURCES := $(shell find crates -name '*.rt' -o -name '*.antt') crates.txt
+SOURCES := $(shell find crates -name out -prune -o \( -name '*.rt' -o -name '*.antt' \) -print) crates.txt
 
 CALLS ?= 100000
 SEED ?= 14
@@ -38,17 +38,17 @@ install: all
 	@install -m 644 build/zanthupra.pc '$(DESTDIR)$(PREFIX)/lib/pkgconfig'
 
 run:
-	@mkdir -p target
-	@rt check script > target/run.log 2>&1 || { tail -n 20 target/run.log; exit 1; }
-	@target/bin/script < "$(IN)" | paste - "$(IN)"
+	@mkdir -p build
+	@(cd crates/script && rt run < /dev/null) > build/run.log 2>&1 || { tail -n 20 build/run.log; exit 1; }
+	@crates/script/out/script < "$(IN)" | paste - "$(IN)"
 
-# what takes seconds first; rt ci last: it removes target/, and its verdict is the last line
+# what takes seconds first; rt ci last: its verdict is the last line
 test:
 	@tools/check-trace
 	@tests/check-constants
 	@$(MAKE) -s test-c
 	@$(MAKE) -s test-rust
-	@rt ci
+	@tools/prove
 
 test-c: all
 	@tests/run-c
