@@ -1,5 +1,7 @@
 // Access masks, one for each account, in a lent slice: whether they are valid, and whether all are zero. A slice of any
 // other length is neither.
+#![tactic(auto)]
+
 ghost use Rattle.std.specs.Prelude.{◌≡◌, replicate};
 ghost use Rattle.lists.specs.Lists.{same};
 ghost use Rattle.records.specs.Sizes.{accounts};
