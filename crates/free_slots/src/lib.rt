@@ -1,4 +1,6 @@
 // The lowest free slot of each table of the volume, in the lent bytes: one field a slot says whether it is free.
+#![tactic(auto)]
+
 ghost use Rattle.std.specs.Prelude.{◌≡◌, length};
 ghost use Rattle.records.specs.Namespace.{namespace};
 ghost use Rattle.layout.specs.Layout.{tables_size, decode};
