@@ -1,4 +1,6 @@
 // The audit of the files table: each slot by itself, and the root.
+#![tactic(auto)]
+
 ghost use Rattle.std.specs.Prelude.{◌≡◌, length};
 ghost use Rattle.records.specs.Slots.{file_used};
 ghost use Rattle.layout.specs.Layout.{tables_size, decode};
