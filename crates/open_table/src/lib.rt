@@ -1,4 +1,6 @@
 // The table of opens in the lent bytes: the lowest free row, and whether a file or a stream has an open.
+#![tactic(auto)]
+
 ghost use Rattle.std.specs.Prelude.{◌≡◌, length};
 ghost use Rattle.layout.specs.Layout.{tables_size, decode};
 ghost use Rattle.open_table.specs.Rows.{free_row, row_slot};
