@@ -1,4 +1,6 @@
 // Format: the lent bytes become those of fresh tables, with the root alone.
+#![tactic(auto)]
+
 ghost use Rattle.std.specs.Prelude.{◌≡◌, length, get_or, take, replicate};
 ghost use Rattle.lists.specs.Lists.{padded};
 ghost use Rattle.records.specs.Sizes.{accounts};
