@@ -20,12 +20,13 @@
 // read and write, of which the second deletes too, and both share all; and one that is not counted and shares nothing.
 // Slots 5 and 9 are free in every table where a case uses them. Cases of the root and of the next handle come first, on
 // the tables that format makes: with the good records links would have no directory above, and opens need the handle.
+#![tactic(auto)]
+
 ghost use Rattle.std.specs.Prelude.{◌≡◌, length};
 ghost use Rattle.layout.specs.Layout.{tables_size};
 ghost use Rattle.audit_cases.specs.Places.{Place};
 
 use layout::{TABLES_SIZE, kind_of};
-use libc::{STDIN_FILENO, STDOUT_FILENO};
 use records::constants::ALL_ACCESS;
 use records::sizes::{ACCOUNTS, FILE_NAME_LIMIT, FILE_SLOTS, LINK_SLOTS, OPEN_SLOTS, STREAM_SLOTS};
 use records::{File, FileNo, Handle, Link, LinkNo, Open, ShareCounts, Stream, StreamNo};
@@ -34,6 +35,8 @@ use records_links::write_link;
 use records_opens::write_open;
 use records_streams::write_stream;
 use records_volume::write_next;
+use std::io;
+use std::io::{Input, Read};
 
 // The slot and eleven fields.
 const WORDS: usize = 12;
@@ -49,8 +52,8 @@ struct Change {
     name: [u16; FILE_NAME_LIMIT],
 }
 
-fn say(text: &[u8]) {
-    io::write_all(STDOUT_FILENO, text);
+fn say(rt: &impl Print, text: &[u8]) -> io::Result<()> {
+    rt.write_all(text)
 }
 
 fn low(number: u32) -> u16 {
@@ -215,47 +218,47 @@ fn put_opens(tables: &mut [u8], c: Change)
 }
 
 // The tables with the change.
-fn put(tables: &mut [u8], c: Change)
+fn put(rt: &impl Print, tables: &mut [u8], c: Change) -> io::Result<()>
     requires { length tables.old ≡ tables_size }
     ensures { length tables.new ≡ tables_size }
 {
     let words = c.words;
     let slot = words[0];
     if slots_of(c.table) <= slot as usize {
-        say(b" ?");
-        return;
+        return say(rt, b" ?");
     }
     if c.table == b'F' {
         write_file(tables, FileNo(low(slot)), file_of(c));
-        return;
+        return Ok(());
     }
     if c.table == b'L' {
         write_link(tables, LinkNo(low(slot)), link_of(c));
-        return;
+        return Ok(());
     }
     if c.table == b'S' {
         write_stream(tables, StreamNo(low(slot)), stream_of(c));
-        return;
+        return Ok(());
     }
     if c.table == b'O' {
         write_open(tables, slot as usize, open_of(c));
-        return;
+        return Ok(());
     }
     if c.table == b'R' {
         put_opens(tables, c);
-        return;
+        return Ok(());
     }
     if c.table == b'N' {
         write_next(tables, Handle(slot as u64));
-        return;
+        return Ok(());
     }
     if c.table == b'B' {
         tables[slot as usize % TABLES_SIZE] = (words[1] % 256) as u8;
     }
+    Ok(())
 }
 
 // The tables with each change of a text, and how many bytes of them are lent at its end.
-fn put_all(tables: &mut [u8], text: &[u8]) -> usize
+fn put_all(rt: &impl Print, tables: &mut [u8], text: &[u8]) -> io::Result<usize>
     requires { length tables.old ≡ tables_size }
     ensures { length tables.new ≡ tables_size }
 {
@@ -264,14 +267,14 @@ fn put_all(tables: &mut [u8], text: &[u8]) -> usize
     let mut end = find(text, b';', 0);
     while end < text.len() {
         let c = change_of(&text[at..end]);
-        put(tables, c);
+        put(rt, tables, c)?;
         if c.table == b'T' {
             lent = c.words[0] as usize;
         }
         at = end + 1;
         end = find(text, b';', at);
     }
-    lent
+    Ok(lent)
 }
 
 fn copy(from: &[u8], to: &mut [u8]) {
@@ -291,50 +294,50 @@ fn verdict(tables: &[u8], lent: usize) -> bool {
 }
 
 // A case: its name, and what the audit says of the good tables with its changes.
-fn answer_case(good: &[u8], line: &[u8]) {
+fn answer_case(rt: &impl Print, good: &[u8], line: &[u8]) -> io::Result<()> {
     let colon = find(line, b':', 0);
-    say(&line[..colon]);
+    say(rt, &line[..colon])?;
     if colon == line.len() {
-        say(b" ?\n");
-        return;
+        return say(rt, b" ?\n");
     }
     let mut tables = [0u8; TABLES_SIZE];
     copy(good, &mut tables);
-    let lent = put_all(&mut tables, &line[colon + 1..]);
+    let lent = put_all(rt, &mut tables, &line[colon + 1..])?;
     if verdict(&tables, lent) {
-        say(b" yes\n");
+        say(rt, b" yes\n")
     } else {
-        say(b" no\n");
+        say(rt, b" no\n")
     }
 }
 
-fn answer_line(tables: &mut [u8], line: &[u8])
+fn answer_line(rt: &impl Print, tables: &mut [u8], line: &[u8]) -> io::Result<()>
     requires { length tables.old ≡ tables_size }
     ensures { length tables.new ≡ tables_size }
 {
     if 0 < line.len() && line[0] == b'+' {
-        put_all(tables, &line[1..]);
-        return;
+        put_all(rt, tables, &line[1..])?;
+        return Ok(());
     }
-    answer_case(tables, line);
+    answer_case(rt, tables, line)
 }
 
-fn answer_lines(tables: &mut [u8], input: &[u8])
+fn answer_lines(rt: &impl Print, tables: &mut [u8], input: &[u8]) -> io::Result<()>
     requires { length tables.old ≡ tables_size }
 {
     let mut at = 0;
     while at < input.len() {
         let end = find(input, b'\n', at);
-        answer_line(tables, &input[at..end]);
+        answer_line(rt, tables, &input[at..end])?;
         at = end + 1;
     }
+    Ok(())
 }
 
-fn main() {
-    let mut input = io::large_buffer();
-    let count = io::read_full(STDIN_FILENO, &mut input);
+fn main(rt: HostRuntime) -> io::Result<()> {
+    let mut input = Vec::new(rt.alloc());
+    rt.reader().read_to_end(&mut input)?;
     let masks = [ALL_ACCESS; ACCOUNTS];
     let mut good = [0u8; TABLES_SIZE];
     format::format(&mut good, &masks, false);
-    answer_lines(&mut good, &input[..count]);
+    answer_lines(&rt, &mut good, &input)
 }

@@ -1,4 +1,8 @@
 // The script on a volume whose streams run out: one slot left for a file that needs two.
-fn main() {
-    script_io::run_script();
+#![tactic(auto)]
+
+use std::io;
+
+fn main(rt: HostRuntime) -> io::Result<()> {
+    script_io::run_script(&rt)
 }

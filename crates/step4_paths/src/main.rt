@@ -3,12 +3,15 @@
 //   e A B                   whether two names have equal units, exactly and folded
 //   p PATH, d PATH, f PATH  the path taken apart, with no option, with option 0x1 and with option 0x40
 // Any other line, and one over 1,024 bytes, is answered by `?`.
+#![tactic(auto)]
+
 ghost use Rattle.std.specs.Prelude.{◌≡◌, cond, ◌++◌, ◌%◌, eqb, length, get_or, take, drop};
 ghost use Rattle.components.specs.Positions.{place_of};
 
 use components::{Part, find_sign, part_of, units_before};
-use libc::{STDIN_FILENO, STDOUT_FILENO};
 use paths::ParsedPath;
+use std::io;
+use std::io::{Input, Read};
 
 const LINE_LIMIT: usize = 1024;
 
@@ -40,71 +43,76 @@ fn write_units(bytes: &[u8], units: &mut [u16])
     }
 }
 
-fn say(text: &[u8]) {
-    io::write_all(STDOUT_FILENO, text);
+fn say(rt: &impl Print, text: &[u8]) -> io::Result<()> {
+    rt.write_all(text)
 }
 
-fn say_byte(byte: u8) {
-    io::write_all(STDOUT_FILENO, &[byte]);
+fn say_byte(rt: &impl Print, byte: u8) -> io::Result<()> {
+    rt.write_all(&[byte])
 }
 
 // The text where the test holds, else a dash.
-fn say_if(test: bool, text: &[u8]) {
+fn say_if(rt: &impl Print, test: bool, text: &[u8]) -> io::Result<()> {
     if test {
-        say(text);
+        say(rt, text)
     } else {
-        say_byte(b'-');
+        say_byte(rt, b'-')
     }
 }
 
 // The units of a part, and a bar.
-fn say_part(path: &[u16], part: Part) {
+fn say_part(rt: &impl Print, path: &[u16], part: Part) -> io::Result<()> {
     let units = part_of(path, part);
     let mut i = 0;
     while i < units.len() {
-        say_byte(byte_of(units[i]));
+        say_byte(rt, byte_of(units[i]))?;
         i += 1;
     }
-    say_byte(b'|');
+    say_byte(rt, b'|')
 }
 
-fn answer_name(name: &[u16]) {
-    say_if(names::valid_file_name(name), b"file");
-    say_byte(b' ');
-    say_if(names::valid_stream_name(name), b"stream");
+fn answer_name(rt: &impl Print, name: &[u16]) -> io::Result<()> {
+    say_if(rt, names::valid_file_name(name), b"file")?;
+    say_byte(rt, b' ')?;
+    say_if(rt, names::valid_stream_name(name), b"stream")
 }
 
 // Two names with one space between them, and no other space.
-fn answer_pair(pair: &[u16]) {
+fn answer_pair(rt: &impl Print, pair: &[u16]) -> io::Result<()> {
     let space = find_sign(pair, SPACE, 0);
     if space < pair.len() {
         let after = space + 1;
         if find_sign(pair, SPACE, after) == pair.len() {
             let a = units_before(pair, space);
             let b = &pair[after..];
-            say_if(units::equal_units(a, b, false), b"exact");
-            say_byte(b' ');
-            say_if(units::equal_units(a, b, true), b"folded");
-            return;
+            say_if(rt, units::equal_units(a, b, false), b"exact")?;
+            say_byte(rt, b' ')?;
+            return say_if(rt, units::equal_units(a, b, true), b"folded");
         }
     }
-    say_byte(b'?');
+    say_byte(rt, b'?')
 }
 
 // The path's file name and stream name, each with a bar after it, then its colon.
-fn answer_path(path: &[u16], wants_directory: bool, wants_file: bool) {
+fn answer_path(
+    rt: &impl Print,
+    path: &[u16],
+    wants_directory: bool,
+    wants_file: bool,
+) -> io::Result<()> {
     let parsed = paths::parse_path(path, wants_directory, wants_file);
     match parsed {
-        ParsedPath::Invalid => say(b"C0000033"),
-        ParsedPath::Root => say(b"root"),
+        ParsedPath::Invalid => say(rt, b"C0000033"),
+        ParsedPath::Root => say(rt, b"root"),
         ParsedPath::Named(leaf) => {
             let file = leaf.file;
             let stream = leaf.stream;
-            say_part(path, file);
-            say_part(path, stream);
+            say_part(rt, path, file)?;
+            say_part(rt, path, stream)?;
             if leaf.colon {
-                say_byte(b':');
+                say_byte(rt, b':')?;
             }
+            Ok(())
         }
     }
 }
@@ -120,20 +128,19 @@ fn kind_of(line: &[u8]) -> u8
 }
 
 // The line's units are written to the buffer; a line that it does not hold is too long.
-fn answer_line(line: &[u8], units: &mut [u16]) {
+fn answer_line(rt: &impl Print, line: &[u8], units: &mut [u16]) -> io::Result<()> {
     let end = line.len();
     if units.len() < end {
-        say_byte(b'?');
-        return;
+        return say_byte(rt, b'?');
     }
     write_units(line, units);
     let text = part_of(units, Part { start: 2, end });
     let kind = kind_of(line);
     match kind {
-        b'n' => answer_name(text),
-        b'e' => answer_pair(text),
-        b'p' | b'd' | b'f' => answer_path(text, kind == b'd', kind == b'f'),
-        _ => say_byte(b'?'),
+        b'n' => answer_name(rt, text),
+        b'e' => answer_pair(rt, text),
+        b'p' | b'd' | b'f' => answer_path(rt, text, kind == b'd', kind == b'f'),
+        _ => say_byte(rt, b'?'),
     }
 }
 
@@ -152,19 +159,20 @@ fn line_end(input: &[u8], at: usize) -> usize
 }
 
 // The lines in order; the last one may lack its line end.
-fn answer_lines(input: &[u8], units: &mut [u16]) {
+fn answer_lines(rt: &impl Print, input: &[u8], units: &mut [u16]) -> io::Result<()> {
     let mut at = 0;
     while at < input.len() {
         let end = line_end(input, at);
-        answer_line(&input[at..end], units);
-        say_byte(b'\n');
+        answer_line(rt, &input[at..end], units)?;
+        say_byte(rt, b'\n')?;
         at = end + 1;
     }
+    Ok(())
 }
 
-fn main() {
-    let mut input = io::large_buffer();
-    let count = io::read_full(STDIN_FILENO, &mut input);
+fn main(rt: HostRuntime) -> io::Result<()> {
+    let mut input = Vec::new(rt.alloc());
+    rt.reader().read_to_end(&mut input)?;
     let mut units = [0u16; LINE_LIMIT];
-    answer_lines(&input[..count], &mut units);
+    answer_lines(&rt, &input, &mut units)
 }

@@ -1,16 +1,18 @@
 // The step cases as a run of the script: each begins on a fresh writable volume with masks 0x1F01FF. What the calls print is
 // written, and `differs` after it where a case says otherwise.
+#![tactic(auto)]
+
 ghost use Rattle.std.specs.Prelude.{◌≡◌, length, take};
 ghost use Rattle.lists.specs.Lists.{same};
 ghost use Rattle.step_vectors.specs.Places.{After};
 
 use layout::TABLES_SIZE;
-use libc::STDOUT_FILENO;
 use records::constants::ALL_ACCESS;
 use records::sizes::ACCOUNTS;
 use script_answers::answer_line;
 use script_io::bytes_before;
 use script_lines::{Printed, print_unknown};
+use std::io;
 
 mod vectors;
 
@@ -22,8 +24,8 @@ const BEGINS: u8 = 0x3D;
 // `>`: what the last line prints.
 const PRINTS: u8 = 0x3E;
 
-fn say(text: &[u8]) {
-    io::write_all(STDOUT_FILENO, text);
+fn say(rt: &impl Print, text: &[u8]) -> io::Result<()> {
+    rt.write_all(text)
 }
 
 // The place after the line at `at`, with its line end.
@@ -65,62 +67,68 @@ fn is_printed(p: Printed, text: &[u8]) -> bool
     same_bytes(bytes_before(&bytes, p.count), text)
 }
 
-fn say_printed(p: Printed) {
+fn say_printed(rt: &impl Print, p: Printed) -> io::Result<()> {
     let bytes = p.bytes;
-    say(bytes_before(&bytes, p.count));
+    say(rt, bytes_before(&bytes, p.count))
 }
 
 // A fresh volume.
-fn begin(tables: &mut [u8]) {
+fn begin(rt: &impl Print, tables: &mut [u8]) -> io::Result<()> {
     let masks = [ALL_ACCESS; ACCOUNTS];
     format::format(tables, &masks, false);
-    say(b"=\n");
+    say(rt, b"=\n")
 }
 
 // A line with its line end, after one that printed this; what was printed last then.
-fn take_line(tables: &mut [u8], last: Printed, line: &[u8]) -> Printed {
+fn take_line(
+    rt: &impl Print,
+    tables: &mut [u8],
+    last: Printed,
+    line: &[u8],
+) -> io::Result<Printed> {
     let count = line.len();
     if count == 0 {
-        return last;
+        return Ok(last);
     }
     if line[0] == BEGINS {
-        begin(tables);
-        return last;
+        begin(rt, tables)?;
+        return Ok(last);
     }
     if line[0] == PRINTS {
         if !is_printed(last, &line[1..]) {
-            say(b"differs\n");
+            say(rt, b"differs\n")?;
         }
-        return last;
+        return Ok(last);
     }
     let printed = answer_line(tables, bytes_before(line, count - 1));
-    say_printed(printed);
-    printed
+    say_printed(rt, printed)?;
+    Ok(printed)
 }
 
 // The lines of a text, one after the other.
-fn run(tables: &mut [u8], text: &[u8]) {
+fn run(rt: &impl Print, tables: &mut [u8], text: &[u8]) -> io::Result<()> {
     let mut last = print_unknown();
     let mut at = 0;
     while at < text.len() {
         let next = after_line(text, at);
-        last = take_line(tables, last, &text[at..next]);
+        last = take_line(rt, tables, last, &text[at..next])?;
         at = next;
     }
+    Ok(())
 }
 
-fn main() {
+fn main(rt: HostRuntime) -> io::Result<()> {
     let mut tables = [0u8; TABLES_SIZE];
-    run(&mut tables, &vectors::parameters());
-    run(&mut tables, &vectors::names());
-    run(&mut tables, &vectors::control_units());
-    run(&mut tables, &vectors::lookups());
-    run(&mut tables, &vectors::new_files());
-    run(&mut tables, &vectors::directories());
-    run(&mut tables, &vectors::streams());
-    run(&mut tables, &vectors::rules());
-    run(&mut tables, &vectors::calls());
-    run(&mut tables, &vectors::deletes());
-    run(&mut tables, &vectors::pending());
-    run(&mut tables, &vectors::removals());
+    run(&rt, &mut tables, &vectors::parameters())?;
+    run(&rt, &mut tables, &vectors::names())?;
+    run(&rt, &mut tables, &vectors::control_units())?;
+    run(&rt, &mut tables, &vectors::lookups())?;
+    run(&rt, &mut tables, &vectors::new_files())?;
+    run(&rt, &mut tables, &vectors::directories())?;
+    run(&rt, &mut tables, &vectors::streams())?;
+    run(&rt, &mut tables, &vectors::rules())?;
+    run(&rt, &mut tables, &vectors::calls())?;
+    run(&rt, &mut tables, &vectors::deletes())?;
+    run(&rt, &mut tables, &vectors::pending())?;
+    run(&rt, &mut tables, &vectors::removals())
 }
