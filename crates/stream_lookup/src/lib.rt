@@ -1,4 +1,6 @@
 // A file's stream by name: the lowest matching slot.
+#![tactic(auto)]
+
 ghost use Rattle.std.specs.Prelude.{◌≡◌, length};
 ghost use Rattle.records.specs.Namespace.{namespace, bare};
 ghost use Rattle.layout.specs.Layout.{tables_size, decode};
