@@ -1,4 +1,6 @@
 // The children of a file: whether some link has it as its parent.
+#![tactic(auto)]
+
 ghost use Rattle.std.specs.Prelude.{◌≡◌, length};
 ghost use Rattle.layout.specs.Layout.{tables_size, decode};
 ghost use Rattle.consistency.specs.Relations.{has_children};
