@@ -1,5 +1,5 @@
 -- The streams that bytes stand for, as the code reads them, and a slot against a stream.
-use Rattle.base.{specs.Base.{ℕ, ◌≡◌, true, false, not, ◌&&◌, List, eqb, length, get_or, all, keep, same, is_used, is_directory, stream_slots, BareStream, bare_used, bare_at, bare, namespace, FileType, FileNo, Stream, StreamNo}, proofs.Laws.{refl, sym, ◌∙◌, ap, length-map, eq-eqb, ne_eqb, or_right, all_keep}}
+use Rattle.base.{specs.Base.{ℕ, ◌≡◌, true, false, not, ◌&&◌, List, eqb, length, get_or, all, keep, same, is_used, is_directory, stream_slots, BareStream, bare_used, bare_at, bare, namespace, FileType, FileNo, Stream, StreamNo}, proofs.Laws.{sym, ◌∙◌, ap, length-map, eq-eqb, ne_eqb, or_right, all_keep}}
 use mathlib.Core.Bool.{beq}
 use Rattle.layout.{specs.Layout.decode, proofs.Lengths.streams_count}
 use Rattle.tables.specs.Tables.{stream_at}

@@ -1,6 +1,8 @@
 // The audit of the streams table, in one pass over it from the last stream to the first: each stream by itself, a key for
 // its name, and of each file how many streams it has and how many of them without a name. Then the names, by their keys, and
 // the streams of each file.
+#![tactic(auto)]
+
 ghost use Rattle.std.specs.Prelude.{◌≡◌, cond, length, drop};
 ghost use Rattle.lists.specs.Lists.{all, all_from, is_empty, keep, pairs};
 ghost use Rattle.stored_names.specs.StoredNames.{units};
