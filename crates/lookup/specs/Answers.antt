@@ -3,7 +3,6 @@ use Rattle.base.specs.Base.{ℕ, Bool, List, Option, none, some, Namespace, Chec
 use Rattle.components.specs.Positions.{parents_of}
 use Rattle.paths.specs.{Paths.{Path, Leaf, no_leaf}, Positions.{as_leaf, as_path}, declared.{LeafParts.LeafParts, ParsedPath.{ParsedPath, TheVariants.{Invalid, Root, Named}}}}
 use Rattle.lookup.specs.{Lookup.{find_link, descend, Place, found, missing, found_root, locate}, declared.{FoundLink.{FoundLink, TheVariants.{At, Missing}}, Located.Located, Walked.Walked}}
-use Rattle.lookup.specs.declared.Located.TheVariants as Located
 use Rattle.lookup.specs.declared.Walked.TheVariants as End
 
 -- what the search for a name finds

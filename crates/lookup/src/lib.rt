@@ -1,4 +1,6 @@
 // Path lookup (the paper's walk, step 6). The lowest matching slot wins.
+#![tactic(auto)]
+
 mod links;
 mod walk;
 
