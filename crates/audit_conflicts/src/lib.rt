@@ -1,5 +1,7 @@
 // The audit of the opens against each other: no two of one stream conflict. It follows the test of the share counts, as it
 // decides from them.
+#![tactic(auto)]
+
 ghost use Rattle.std.specs.Prelude.{◌≡◌, length};
 ghost use Rattle.layout.specs.Layout.{tables_size, decode};
 ghost use Rattle.audit_conflicts.specs.Others.{others_test};
