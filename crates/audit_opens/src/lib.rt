@@ -1,6 +1,8 @@
 // The audit of the open table: each row by itself, and the handles, by their numbers; then the share counts, counted anew and
 // held against those that the streams have. A pass goes from the last row to the first, as each row comes in front of those
 // passed.
+#![tactic(auto)]
+
 ghost use Rattle.std.specs.Prelude.{ℕ, ◌<◌, ◌≡◌, false, ◌&&◌, [], length, get_or};
 ghost use Rattle.records.specs.Slots.{zero_counts, open_used};
 ghost use Rattle.records.specs.Sizes.{stream_slots};
