@@ -1,5 +1,7 @@
 // The audit of the marks: a marked file is not the root, has no children and has an open, and a marked stream has an open of
 // its own. Marks are rare, so links and opens are looked through only for what is marked.
+#![tactic(auto)]
+
 ghost use Rattle.std.specs.Prelude.{◌≡◌, length};
 ghost use Rattle.lists.specs.Lists.{all_from};
 ghost use Rattle.records.specs.Namespace.{bare_at, namespace};
