@@ -1,6 +1,8 @@
 // The audit of the links table, in one pass over it: each link by itself, a key for its name, how many links name each
 // file, and each file's parent. Then the names, by their keys, and the links and the parents of each file. The pass goes
 // from the last link to the first, as the definitions go through them.
+#![tactic(auto)]
+
 ghost use Rattle.std.specs.Prelude.{ℕ, ◌<◌, ◌≡◌, cond, not, ◌||◌, eqb, length, get_or, drop};
 ghost use Rattle.lists.specs.Lists.{all, all_from, keep, pairs};
 ghost use Rattle.records.specs.Sizes.{file_slots};
