@@ -1,5 +1,7 @@
 // The opens as a lent row of records, `&[Open]` and `&mut [Open]`: the record at a row, a record stored at a row, and the
 // lowest row that a search is for. Above them stand functions on the lent bytes, which read the table into a row once.
+#![tactic(auto)]
+
 ghost use Rattle.std.specs.Prelude.{◌≡◌, length, get_or, set};
 ghost use Rattle.lists.specs.Lists.{first};
 ghost use Rattle.layout.specs.Layout.{tables_size, decode};
