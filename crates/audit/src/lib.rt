@@ -1,4 +1,6 @@
 // The audit: whether lent bytes stand for consistent tables (the paper's soundness), decided table by table.
+#![tactic(auto)]
+
 ghost use Rattle.std.specs.Prelude.{◌≡◌, length};
 ghost use Rattle.consistency.specs.Test.{consistent};
 ghost use Rattle.layout.specs.Layout.{tables_size, decode};
