@@ -2,7 +2,7 @@
 use Prim.Native.Nat.{◌%◌, ◌/◌}
 use native.Mathlib.Nat.{mod-add-div, mod-lt}
 use lib.Seq.{take-suc}
-use Rattle.base.{specs.Base.{ℕ, suc, ◌+◌, ◌*◌, ◌≤◌, ◌<◌, ◌≡◌, List, [], ◌∷◌, ◌++◌, length, get_or, take}, proofs.Laws.{refl, sym, ◌∙◌, ap, arith}}
+use Rattle.base.{specs.Base.{ℕ, ◌+◌, ◌*◌, ◌≤◌, ◌<◌, ◌≡◌, List, [], ◌∷◌, ◌++◌, length, get_or, take}, proofs.Laws.{refl, sym, ◌∙◌, ap, arith}}
 use native.Mathlib.Numerals.{add-one}
 use mathlib.Core.List.{append-nil}
 use Rattle.little_endian.{proofs.Numbers.to_sum, specs.LittleEndian.to_bytes}

@@ -1,8 +1,8 @@
 -- Which record a block holds, by its number; and each record's block.
-use Rattle.base.{specs.Base.{ℕ, suc, ◌+◌, ◌-◌, ◌≤◌, ◌<◌, ◌≡◌, file_slots, link_slots, stream_slots}, proofs.Laws.{eq-eqb, ne_eqb, le-leb, lt-leb, refl, arith}}
+use Rattle.base.{specs.Base.{ℕ, ◌+◌, ◌-◌, ◌≤◌, ◌<◌, ◌≡◌, file_slots, link_slots}, proofs.Laws.{eq-eqb, ne_eqb, le-leb, lt-leb, arith}}
 use borrow.Author.Tests.{lt-ltb, le-ltb}
 use Rattle.image.specs.Blocks.{image_blocks, record_of}
-use Rattle.image.specs.declared.{BlockRecord.{BlockRecord, TheVariants.{Header, FileSlot, LinkSlot, StreamSlot, Past}}}
+use Rattle.image.specs.declared.{BlockRecord.{TheVariants.{Header, FileSlot, LinkSlot, StreamSlot, Past}}}
 
 pub header_record : (n : ℕ) → n ≡ 0 → record_of n ≡ Header
 unfolding record_of

@@ -1,4 +1,6 @@
 // The image of the tables: a row of blocks of 512 bytes (docs/IMAGE.md). Which record a block holds, and its check.
+#![tactic(auto)]
+
 ghost use Rattle.std.specs.Prelude.{◌≡◌, ◌%◌, length, take};
 ghost use Rattle.image.specs.Blocks.{block_size, check_at, byte_sum, record_of};
 
