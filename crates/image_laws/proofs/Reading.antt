@@ -2,7 +2,7 @@
 use Prim.Native.Nat.{◌%◌}
 use native.Mathlib.Nat.{add-zero, zero-add, suc-add, mod-add-div, mul-mod_right, mul-div_right}
 use lib.{ListN.length-append, Seq.{take-append-le, drop-append-le}}
-use Rattle.base.{specs.Base.{ℕ, zero, suc, ◌+◌, ◌*◌, ◌≤◌, ◌<◌, ◌≡◌, true, List, [], ◌∷◌, ◌++◌, length, take, drop, all, leb, ltb, FileCorruptError, Checked, passed, ◌>>=◌, ◌>>◌}, proofs.Laws.{refl, sym, ◌∙◌, ap, arith, length-drop, by_cases, ltb-true, ltb-false, not_both, not-false, not_isn't, and_left, and_right, and_both, le-leb, eq-eqb, eqb-true, passed_same}}
+use Rattle.base.{specs.Base.{ℕ, zero, suc, ◌+◌, ◌*◌, ◌≤◌, ◌<◌, ◌≡◌, true, List, [], ◌∷◌, ◌++◌, length, take, drop, all, leb, ltb, FileCorruptError, Checked, passed, ◌>>=◌}, proofs.Laws.{refl, sym, ◌∙◌, ap, arith, length-drop, by_cases, ltb-true, ltb-false, not_both, not-false, not_isn't, and_left, and_right, and_both, le-leb, eq-eqb, eqb-true, passed_same}}
 use Rattle.image.{specs.{Blocks.{block_size, image_blocks, record_of}, Alone.{well_formed, record_alone, record_in, block_alone}, Image.{Reading, whole_blocks, blocks_in, put_block, read_block, read_blocks, read_row, read_rows}, declared.BlockRecord.BlockRecord}, proofs.Records.past_record}
 use Rattle.image_laws.proofs.Chains.{test_passed, test_passes, bind_passed, bind_same, bind_bind}
 use Rattle.image_laws.specs.RoundTrip.{joined}

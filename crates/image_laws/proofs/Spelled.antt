@@ -94,7 +94,7 @@ blocks_spelled s t (suc k) row long h =
     let alone = read_alone s next.0 b next.1.0 in
     let put = read_put s next.0 b next.1.0 in
     next_spells s t k row long alone
-    (blocks_spelled _ t k (drop block_size row) (put_length s.reader b alone s.spare long) (rw put at next.1.1))
+    (blocks_spelled (record { spare = put_block s.reader b s.spare; reader = suc s.reader }) t k (drop block_size row) (put_length s.reader b alone s.spare long) (rw put at next.1.1))
 
 -- all blocks read from block 0 on
 module _ (s t : Reading) (rows : List (List ℕ)) (first : s.reader ≡ 0) (read : read_rows s rows ≡ passed t) (last : t.reader ≡ image_blocks) where

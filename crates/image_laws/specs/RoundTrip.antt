@@ -1,7 +1,7 @@
 -- The round trip of the image, and that there is no second spelling (request L4).
-use Rattle.base.specs.Base.{ℕ, zero, suc, ◌+◌, ◌≡◌, true, false, List, [], ◌∷◌, ◌++◌, length, all, any, open_used, passed, done, Tables}
+use Rattle.base.specs.Base.{ℕ, ◌+◌, ◌≡◌, true, false, List, [], ◌∷◌, ◌++◌, length, all, any, open_used, passed, done}
 use Rattle.audit.specs.Sound.{sound_bytes}
-use Rattle.image.specs.{Blocks.{image_blocks, image_part, image, without_opens}, Image.{Reading, Restoring, blocks_in, whole_blocks, write_image, read_rows, finish_image}}
+use Rattle.image.specs.{Blocks.{image_blocks, image, without_opens}, Image.{Reading, Restoring, blocks_in, whole_blocks, write_image, read_rows, finish_image}}
 use Rattle.layout.specs.Layout.{tables_size, encode, decode}
 use Rattle.little_endian.specs.LittleEndian.{Bytes}
 
