@@ -53,7 +53,7 @@ ran_next {m} {s} {s'} {later} {later'} now then =
 ran : (t : Tables) (m : Model) → Related t m → (calls : List Call) → Ran m (run store_step t calls) (run model_step m calls)
 unfolding run
 ran t m related [] = ran_none related
-ran t m related (c ∷ cs) = let now = together related c in ran_next now (ran _ _ now.related_after cs)
+ran t m related (c ∷ cs) = let now = together related c in ran_next now (ran (store_step t c).state (model_step m c).state now.related_after cs)
 
 -- what holds of related states
 module _ {t : Tables} {m : Model} (related : Related t m) where
