@@ -1,5 +1,7 @@
 // Whether a block, by itself, can stand at its number in an image of consistent tables: it is well formed, and its record has no
 // fault that shows without other blocks.
+#![tactic(auto)]
+
 ghost use Rattle.std.specs.Prelude.{◌+◌, ◌≡◌, ◌&&◌, ltb, length, replicate};
 ghost use Rattle.lists.specs.Lists.{same};
 ghost use Rattle.little_endian.specs.LittleEndian.{part};
