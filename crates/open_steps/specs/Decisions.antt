@@ -1,7 +1,7 @@
 -- What a decided open stands for (the sharing check and step 12).
-use Rattle.base.specs.Base.{ℕ, cond, List, [], ◌∷◌, is_empty, Namespace, BareStream, Checked, passed, refuse, Data, FileNo, StreamNo}
+use Rattle.base.specs.Base.{ℕ, cond, List, [], ◌∷◌, is_empty, Namespace, BareStream, Checked, passed, refuse, Data, StreamNo}
 use Rattle.components.specs.Positions.{part_of}
-use Rattle.store.specs.Complete.{Change, Placed, Decision, with_attributes, stream_new, link_new, place_file, attribute_change}
+use Rattle.store.specs.Complete.{Placed, Decision, with_attributes, stream_new, link_new, place_file, attribute_change}
 use Rattle.tables.specs.Tables.{file_at}
 use Rattle.open_steps.specs.{Pendings.{terms_over, as_attributes, as_file}, declared.{StreamToAdd.StreamToAdd, FileToAdd.FileToAdd, FileSlots.FileSlots, PlacedOpen.PlacedOpen, AcceptedOpen.AcceptedOpen, DecidedOpen.{DecidedOpen, TheVariants.{Refused, Accepted}}}}
 use Rattle.open_steps.specs.declared.PlacedOpen.TheVariants as Place

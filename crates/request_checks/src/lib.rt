@@ -1,4 +1,6 @@
 // What a request's numbers alone settle (steps 1, 2, 3 and 5).
+#![tactic(auto)]
+
 ghost use Rattle.std.specs.Prelude.{◌≡◌, [], ◌∷◌};
 ghost use Rattle.lists.specs.Lists.{one_of};
 ghost use Rattle.records.specs.Constants.{supersede, open_only, open_if, overwrite, overwrite_if};

@@ -1,12 +1,12 @@
 -- Laws of the calls that stand by themselves: a refused call changes nothing, and each call keeps consistent tables
 -- consistent and is answered as the model of those tables would answer it.
-use Rattle.base.{specs.Base.{◌≤◌, suc, ℕ, count, Checked, ◌>>=◌, passed, refused, namespace, Step, Tables, concluded, CreateAction, Handle, Done, Refused, Success, Outcome, FileCorruptError, InvalidParameter, Status, Bool, List, ◌⊎◌, inl, inr, ◌≡◌}, proofs.Laws.{perm_refl, Ends, ends_test, goes, stops, went, refl, arith}}
+use Rattle.base.{specs.Base.{◌≤◌, suc, ℕ, Checked, ◌>>=◌, passed, refused, namespace, Step, Tables, concluded, CreateAction, Handle, Done, Refused, Success, Outcome, FileCorruptError, InvalidParameter, Status, Bool, List, ◌⊎◌, inl, inr, ◌≡◌}, proofs.Laws.{perm_refl, Ends, ends_test, goes, stops, went, refl, arith}}
 use Prim.Native.Nat.{pred}
 use Rattle.consistency.specs.Consistent.{Consistent}
 use Rattle.format.specs.Format.{checked_masks, format}
 use Rattle.tables.specs.Tables.{live}
 use Rattle.store.proofs.Sequences.{Related.Related, Steps.together}
-use Rattle.store.specs.{Calls.{Call, closes, model_step, opens, sets_read_only, store_step}, Complete.next_handle, Model.Model, Store.{closed, opened, store_close, store_open, store_set_read_only, when_consistent}}
+use Rattle.store.specs.{Calls.{Call, closes, model_step, opens, sets_read_only, store_step}, Model.Model, Store.{closed, opened, store_close, store_open, store_set_read_only, when_consistent}}
 
 -- a step that is no refusal
 abbrev Accepts : {S : Type 0} → Step S → Type 0

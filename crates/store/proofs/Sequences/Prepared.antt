@@ -1,6 +1,6 @@
 -- The steps before the sharing check, followed once. On a consistent namespace none of them refuses with
 -- FILE_CORRUPT_ERROR or SHARING_VIOLATION, and the pending open that they leave fits the namespace.
-use Rattle.base.{specs.Base.{◌≤◌, ℕ, any, is_empty, one_of, Checked, ◌>>◌, passed, create, open_if, open_only, write_data, Namespace, status_number, stream_name_limit, file_used, is_data, is_directory, is_used, stream_used, FileNo, FileType, Request, AccessDenied, FileIsADirectory, NotADirectory, ObjectNameCollision, Status, StreamNo, bit_or, eqb, Bool, ◌&&◌, cond, false, true, List, [], ◌∷◌, ◌≢◌, Option, none, some, ◌≡◌, Unused, Data, Directory}, proofs.Laws.{none≢some, Ends, ends_bind, ends_cond, ends_test, ends_weaker, goes, went, false≢true, true≢false, some_injective, refl, subst, arith}}
+use Rattle.base.{specs.Base.{◌≤◌, ℕ, any, is_empty, one_of, Checked, ◌>>◌, passed, create, open_if, open_only, write_data, Namespace, status_number, stream_name_limit, file_used, is_data, is_directory, is_used, FileNo, FileType, Request, AccessDenied, FileIsADirectory, NotADirectory, ObjectNameCollision, Status, StreamNo, bit_or, eqb, Bool, ◌&&◌, cond, false, true, List, [], ◌∷◌, ◌≢◌, Option, none, some, ◌≡◌, Unused, Data, Directory}, proofs.Laws.{none≢some, Ends, ends_bind, ends_cond, ends_test, ends_weaker, goes, went, false≢true, true≢false, some_injective, refl, subst, arith}}
 use Rattle.bits.proofs.Sets.{within_le, within_or_l}
 use Rattle.consistency.{proofs.{Derived.file_good, Numbered.directory_used}, specs.Good.GoodAttributes}
 use Rattle.lookup.specs.Lookup.{Place, Resolved, found, missing}

@@ -4,7 +4,7 @@ use Rattle.consistency.{proofs.{Derived.free_unopened, Equivalence.consistent_if
 use Rattle.sharing.{proofs.Check.any_conflict_perm, specs.Sharing.{any_conflict, conflict, on_stream}}
 use Rattle.tables.specs.Tables.{live, any_on_file, any_on_stream}
 use Rattle.store.proofs.Sequences.{Closed.close_related, Completed.{DecisionFits, Unopposed, decide_ends}, Facts.{Joins, Other, namespace_of}, Opens.{Close.struck, Conflicts.share_more, Counts.{counts-joined, counts_written}, Join.{conflicts-joined, joined, joined-live, joins_used}, Names.{changed_names, used_below, with_open_names}, Table.opens_kept}, Related.{Related, closing_alike, consistent_with}, Views.{decided_alike, room_same}}
-use Rattle.store.specs.{Calls.{Call, closes, model_step, opens, sets_read_only, store_step}, Close.decide_close, Complete.{Decision, changed, decide, new_open, next_handle, with_share_read}, Model.{Model, model_close, model_closed, model_open, model_opened, model_set_read_only, model_settled, model_struck, model_view, namespace_marked}, Sequences.{handle_of, is_corrupt}, Store.{changed_volume, closed, has_handle, opened, store_close, store_open, store_set_read_only, store_view, volume_marked, volume_with_open, when_consistent}}
+use Rattle.store.specs.{Calls.{Call, closes, model_step, opens, sets_read_only, store_step}, Close.decide_close, Complete.{Decision, changed, decide, new_open, with_share_read}, Model.{Model, model_close, model_closed, model_open, model_opened, model_set_read_only, model_settled, model_struck, model_view, namespace_marked}, Sequences.{handle_of, is_corrupt}, Store.{changed_volume, closed, has_handle, opened, store_close, store_open, store_set_read_only, store_view, volume_marked, volume_with_open, when_consistent}}
 
 -- a step of the model from m issues the next handle, or none
 abbrev pub Issues : Model → Step Model → Type 0

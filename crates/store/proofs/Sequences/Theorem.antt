@@ -1,11 +1,11 @@
 -- Demand 3: every sequence of calls from a freshly formatted volume (store/specs/Sequences.antt has the statement).
 use Rattle.base.{specs.Base.{◌<◌, suc, zero, ℕ, all, any, keep, nil, pairs, ◌>>◌, passed, refuse_if, Reply, open_used, zero_open, Step, Tables, concluded, Done, Refused, FileCorruptError, InvalidParameter, Status, StreamNo, eqb, length, Bool, ◌||◌, false, not, true, List, [], ◌∷◌, inl, inr, ◌≡◌, done}, proofs.Laws.{and_both, not_is, perm_pairs, ne_eqb, ◌∙◌, ap, ap₂, refl, subst, subst₂, sym, arith}}
-use Rattle.consistency.{proofs.{Opens.{agree_iff, agree_swap}, Slots.two_iff}, specs.{Good.{OpensAgree, handles_differ, opens_agree}, Relations.valid_masks}}
+use Rattle.consistency.{proofs.{Opens.{agree_iff, agree_swap}, Slots.two_iff}, specs.{Good.{OpensAgree, opens_agree}, Relations.valid_masks}}
 use Rattle.format.{proofs.Fresh.fresh-consistent, specs.Format.{checked_masks, format, fresh_tables, fresh_volume, right_lengths}}
 use Rattle.sharing.{proofs.Counts.counts_perm, specs.Sharing.counts_of}
 use Rattle.tables.specs.Tables.{stream_at, live}
 use Rattle.store.proofs.Sequences.{Related.Related, Steps.{Issues, Together, together}, Violation.{from-check, share_right, violation}}
-use Rattle.store.specs.{Calls.{Call, Run, model_step, run, store_step}, Complete.next_handle, Model.{Model, fresh_model, model_format}, Sequences.{Agree, EverySequence, handle_of, is_corrupt, issued, numbers_from}}
+use Rattle.store.specs.{Calls.{Call, Run, model_step, run, store_step}, Model.{Model, fresh_model, model_format}, Sequences.{Agree, EverySequence, handle_of, is_corrupt, issued, numbers_from}}
 
 pub refused≢done : {s : Status} → Refused s ≡ Done → ⊥
 refused≢done e = let z : ◌≡◌ {A = ℕ} 0 1 = cc in omega arith

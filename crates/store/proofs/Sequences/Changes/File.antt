@@ -1,5 +1,5 @@
 -- A file that a directory gains: its placing leaves consistent names.
-use Rattle.base.{specs.Base.{◌≤◌, suc, all, is_empty, writes, BareStream, Namespace, bare_at, bare_used, zero_bare, file_name_limit, stream_name_limit, file_used, is_directory, link_used, root, stream_used, zero_file, zero_link, File, FileNo, LinkNo, StreamNo, set, false, true, List, [], ◌∷◌, ◌≢◌, ◌≡◌}, proofs.Laws.{refuted, not_both, not_is, none_set, set-each, FreeSlot, free_stays, Ends, ends_bind, ends_cond, goes, ne_eqb, ◌∙◌, ap, refl, sym, arith}}
+use Rattle.base.{specs.Base.{◌≤◌, suc, all, is_empty, writes, BareStream, Namespace, bare_at, bare_used, zero_bare, file_name_limit, stream_name_limit, file_used, is_directory, link_used, root, zero_file, zero_link, File, FileNo, LinkNo, StreamNo, set, false, true, List, [], ◌∷◌, ◌≢◌, ◌≡◌}, proofs.Laws.{refuted, not_both, not_is, none_set, set-each, FreeSlot, free_stays, Ends, ends_bind, ends_cond, goes, ne_eqb, ◌∙◌, ap, refl, sym, arith}}
 use Rattle.consistency.{proofs.{Numbered.directory-file, Relations.child_of_iff}, specs.{Consistent.StreamsConsistent, Relations.{child_of, has_children, type_at}}}
 use Rattle.names.{specs.{Names.{valid_units, valid_file_name}, declared.NameKind.TheVariants.{FileName, StreamName}}, proofs.ValidNames.file_name_units}
 use Rattle.paths.specs.Paths.{Leaf}

@@ -1,5 +1,5 @@
 -- A stream that a data file gains: its placing leaves consistent names.
-use Rattle.base.{specs.Base.{ℕ, ◌≡◌, true, false, List, [], ◌∷◌, set, is_empty, writes, is_used, is_directory, file_used, Namespace, BareStream, zero_bare, bare_used, bare_at, Data, FileNo, StreamNo, File, stream_used}, proofs.Laws.{refl, sym, ◌∙◌, ap, arith, refuted, empty_is, count_none, FreeSlot, Ends, ends_bind, goes}}
+use Rattle.base.{specs.Base.{ℕ, ◌≡◌, true, false, List, [], ◌∷◌, set, is_empty, writes, is_used, is_directory, file_used, Namespace, BareStream, zero_bare, bare_used, bare_at, Data, FileNo, StreamNo, File}, proofs.Laws.{refl, sym, ◌∙◌, ap, arith, refuted, empty_is, count_none, FreeSlot, Ends, ends_bind, goes}}
 use Rattle.consistency.{specs.Relations.unnamed_of, proofs.Relations.{stream_of_iff, unnamed_iff}}
 use Rattle.paths.specs.Paths.{Leaf}
 use Rattle.tables.specs.Tables.{file_at}

@@ -1,6 +1,6 @@
 -- The table of opens stays consistent where the names change and where a slot takes another record.
 use Rattle.base.{specs.Base.{◌≤◌, ℕ, BareStream, open_used, zero_open, Open, set, false, true, List, ◌≡◌}, proofs.Laws.{◌∙◌, subst, sym, arith}}
-use Rattle.consistency.{proofs.Slots.{slots_good, slots_set, two_set}, specs.{Consistent.{GoodOpenOf, NoConflicts, OpensConsistent, open_at}, Good.{GoodOpen, HandlesDiffer, OpensAgree, handles_differ}}}
+use Rattle.consistency.{proofs.Slots.{slots_good, slots_set, two_set}, specs.{Consistent.{GoodOpenOf, NoConflicts, OpensConsistent, open_at}, Good.{GoodOpen, HandlesDiffer, OpensAgree}}}
 use Rattle.sharing.proofs.PairRule.{conflicting_sym}
 use Rattle.store.proofs.Sequences.Facts.{StreamsKept}
 
