@@ -1,7 +1,7 @@
 -- A block written: its number and content over zeros, and the check over what stands there then.
-use lib.{ListN.{length-append, replicate-append-replicate}, Seq.{sets, sets-eq, take_at, drop_at, drop-drop}}
+use lib.{ListN.{length-append, replicate-append-replicate}, Seq.{sets, sets-eq, take_at, drop_at}}
 use mathlib.Core.List.{append_assoc, append-nil}
-use Rattle.base.{specs.Base.{ℕ, ◌+◌, ◌-◌, ◌≤◌, ◌<◌, ◌≡◌, List, ◌++◌, length, take, drop, replicate, padded, file_slots, link_slots, stream_slots}, proofs.Laws.{sym, ◌∙◌, ap, subst, arith, by_cases, length-take, length-drop, length-replicate, drop_of_length-le}}
+use Rattle.base.{specs.Base.{ℕ, ◌+◌, ◌-◌, ◌≤◌, ◌<◌, ◌≡◌, List, ◌++◌, length, take, drop, replicate, padded, file_slots, link_slots, stream_slots}, proofs.Laws.{sym, ◌∙◌, ap, subst, arith, by_cases, length-replicate, drop_of_length-le}}
 use borrow.Author.Tests.{eqb-true, eqb-false, leb-true, leb-false, ltb-true, ltb-false}
 use lib.Dec.{eqb, leb, ltb}
 use Prim.Native.Nat.{◌%◌}

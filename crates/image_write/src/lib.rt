@@ -1,6 +1,7 @@
 // Writing the image: blocks of the lent tables into a lent row.
-ghost use mathlib.Core.{Path.◌≡◌, Bool.◌&&◌};
-ghost use Rattle.std.specs.Prelude.{◌+◌, ◌≤◌, leb, length};
+#![tactic(auto)]
+
+ghost use Rattle.std.specs.Prelude.{◌+◌, ◌≡◌, ◌≤◌, ◌&&◌, leb, length};
 ghost use Rattle.records.specs.State.{Answers};
 ghost use Rattle.little_endian.specs.LittleEndian.{part};
 ghost use Rattle.little_endian.specs.Writes.{Wrote};
