@@ -1,1 +1,2 @@
 // The words of the definitions under one name. It has no code.
+#![tactic(auto)]

@@ -1,4 +1,6 @@
 // Sets of bits held in a number: access masks, options, attributes.
+#![tactic(auto)]
+
 ghost use Rattle.std.specs.Prelude.{◌≡◌};
 ghost use Rattle.bits.specs.Bits as bits;
 

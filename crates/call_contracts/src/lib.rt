@@ -1,1 +1,2 @@
 // What the calls on lent bytes promise, and the laws by which they keep it. No code.
+#![tactic(auto)]

@@ -1,4 +1,6 @@
 // The C interface: the calls on numbers and byte slices, under the names of include/zanthupra.h.
+#![tactic(auto)]
+
 mod arguments;
 
 ghost use Rattle.std.specs.Prelude.{◌≡◌, [], ◌∷◌};

@@ -1,4 +1,6 @@
 // Numbers in a lent slice of bytes, least significant byte first: read and written at a place, without padding.
+#![tactic(auto)]
+
 ghost use Rattle.std.specs.Prelude.{◌≡◌, ◌+◌, ◌≤◌, length};
 ghost use Rattle.little_endian.specs.LittleEndian.{from_bytes, to_bytes, part};
 ghost use Rattle.little_endian.specs.Writes.{Wrote};

@@ -1,5 +1,7 @@
 // What the steps of an open hand to each other: the target found, the open admitted, the open decided. Each is a refusal or
 // goes on. `specs/` says what each stands for.
+#![tactic(auto)]
+
 use paths::LeafParts;
 use records::{CreateAction, FileNo, FileType, Handle, LinkNo, Status, StreamNo};
 

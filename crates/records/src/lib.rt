@@ -1,5 +1,7 @@
 // The records of document 01: what a volume and its table of opens hold, what an open asks and what a call answers.
 // File, link and stream numbers and handles are types of their own, so that none can serve as another.
+#![tactic(auto)]
+
 pub mod constants;
 pub mod sizes;
 pub mod slots;
