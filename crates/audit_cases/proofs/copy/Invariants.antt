@@ -1,9 +1,6 @@
--- The loop's invariant: what is written keeps its length.
-use Rattle.base.specs.Base.{◌-◌, ◌≡◌, length}
+-- Each turn copies a byte.
+use Rattle.base.specs.Base.{◌-◌, length}
 use Rattle.audit_cases.proofs.copy.Given as goal
-
-abbrev pub invariant-loop-i : goal.invariant-loop-i
-invariant-loop-i l = length l.to ≡ length l.initial.to
 
 abbrev pub decreases-loop-i : goal.decreases-loop-i
 decreases-loop-i l = length l.from - l.i
