@@ -1,4 +1,4 @@
-use Rattle.base.{specs.Base.{not}, proofs.Laws.{refl, ap, arith, eq-eqb, ne_eqb}}
+use Rattle.base.{specs.Base.{not}, proofs.Laws.{ap, arith, eq-eqb, ne_eqb}}
 use Rattle.components.{specs.Positions.{place_of}, proofs.Leading.{seek_next, seek_stops, seek_end}}
 use Rattle.step4_paths.proofs.line_end.Goals as goal
 
@@ -12,6 +12,3 @@ loop-i-preserved c = seek_next c.loop-i.invariant (omega arith) (ap not (ne_eqb 
 pub returns : goal.returns
 unfolding place_of
 returns c = seek_end c.loop-i.invariant c.loop-i-test.false
-
-pub loop-i-init : goal.loop-i-init
-loop-i-init c = record { left = refl }
