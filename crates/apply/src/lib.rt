@@ -1,5 +1,7 @@
 // A decided call written into the tables: an accepted open, and an open that is struck. Only the records that change are
 // written.
+#![tactic(auto)]
+
 ghost use Rattle.std.specs.Prelude.{ℕ, ◌≡◌, List, length};
 ghost use Rattle.lists.specs.Lists.{padded};
 ghost use Rattle.records.specs.Sizes.{file_name_limit, stream_name_limit};
@@ -27,6 +29,7 @@ use sharing::{with_open, without_open};
 use stored_names::stored_name;
 
 // The handle after this one; the last stays.
+#[tactic(auto, unfolding(crate::specs::Applied::raised))]
 fn raised(h: Handle) -> Handle
     ensures { result.0 ≡ raised h.0 }
 {
@@ -172,6 +175,7 @@ fn write_placed(b: &mut [u8], path: &[u16], placed: PlacedOpen)
 }
 
 // The file and the stream that are opened.
+#[tactic(auto, unfolding(open_steps::specs::Decisions::as_placed, open_steps::specs::Decisions::placed_stream, store::specs::Complete::place_file))]
 fn file_of(placed: PlacedOpen) -> FileNo
     ensures { (ns : Namespace) (path : List ℕ) → result ≡ (as_placed ns path placed).file }
 {
@@ -182,6 +186,7 @@ fn file_of(placed: PlacedOpen) -> FileNo
     }
 }
 
+#[tactic(auto, unfolding(open_steps::specs::Decisions::as_placed, open_steps::specs::Decisions::placed_stream, store::specs::Complete::place_file))]
 fn stream_of(placed: PlacedOpen) -> StreamNo
     ensures { (ns : Namespace) (path : List ℕ) → result ≡ (as_placed ns path placed).stream }
 {
