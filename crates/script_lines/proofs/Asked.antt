@@ -1,5 +1,5 @@
 -- A line that asks something is short enough that its whole path is copied.
-use Rattle.base.{specs.Base.{ℕ, ◌≤◌, ◌≡◌, List, none, some, length, leb, take, drop, Request}, proofs.Laws.{sym, arith, by_cases, none≢some, length-drop, take_all}}
+use Rattle.base.{specs.Base.{ℕ, ◌≤◌, ◌≡◌, List, some, length, leb, take, drop, Request}, proofs.Laws.{sym, arith, by_cases, none≢some, length-drop, take_all}}
 use borrow.Author.Tests.{leb-true}
 use Rattle.store.specs.Calls.{Call}
 use Rattle.script_lines.specs.{Lines.{line_limit, parse_line}, Found.as_call, declared.AskedLine.TheVariants.Open}

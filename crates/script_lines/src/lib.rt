@@ -1,4 +1,6 @@
 // The script's lines: what a line asks, and what is printed of an answer. A line is its bytes, without the line end.
+#![tactic(auto)]
+
 ghost use Rattle.std.specs.Prelude.{◌+◌, ◌*◌, ◌%◌, ◌≤◌, ◌<◌, ◌≡◌, cond, ◌&&◌, leb, length, take, drop};
 ghost use Rattle.lists.specs.Lists.{all};
 ghost use Rattle.script_lines.specs.Lines.{line_limit, is_digit, is_ascii, digits_from, number, field, open_line, close_line, parse_line};
@@ -57,6 +59,7 @@ pub struct Printed {
     pub count: usize,
 }
 
+#[tactic(auto, unfolding(crate::specs::Lines::is_digit))]
 fn is_digit(byte: u8) -> bool
     ensures { result ≡ is_digit byte }
 {
@@ -232,6 +235,7 @@ pub fn path_units(line: &[u8], from: usize) -> PathUnits
 }
 
 // An action's digit, or `-`.
+#[tactic(auto, unfolding(records::specs::Numbers::seen, records::specs::Numbers::action_number, crate::specs::Print::action_byte, crate::specs::Print::digit))]
 fn action_byte(a: Answer) -> u8
     ensures { result ≡ action_byte (answer_seen a).action }
 {
@@ -249,6 +253,7 @@ fn action_byte(a: Answer) -> u8
 }
 
 // 0 to 9, then A to F, of a number's last hexadecimal digit.
+#[tactic(auto, unfolding(crate::specs::Print::digit))]
 fn digit_byte(n: u64) -> u8
     ensures { result ≡ digit (n % 16) }
 {
