@@ -1,10 +1,7 @@
 -- A record put into the second set: where it goes, and that it fits there.
-use mathlib.Core.List.{append_assoc}
-use lib.Seq.{sets, sets-eq, drop-drop}
-use Rattle.base.{specs.Base.{ℕ, ◌+◌, ◌-◌, ◌≤◌, ◌≡◌, List, ◌++◌, length, take, drop, ltb}, proofs.Laws.{sym, subst, arith, by_cases, ltb-true, ltb-false}}
+use Rattle.base.{specs.Base.{ℕ, ◌+◌, ◌≤◌, ◌≡◌, List, ltb}, proofs.Laws.{sym, subst, arith, by_cases, ltb-true, ltb-false}}
 use Rattle.layout.specs.Layout.{tables_size}
-use Rattle.little_endian.specs.{LittleEndian.part, Writes.Wrote}
-use Rattle.codecs.proofs.Fields.{part_length}
+use Rattle.little_endian.specs.{Writes.Wrote}
 use Rattle.image.{specs.{Blocks.{image_blocks, record_of, place_of, size_of}, Alone.record_in, Image.{spare_for, put_block}, declared.BlockRecord.BlockRecord}, proofs.Records.past_record}
 use Rattle.image_laws.proofs.Places.{record_ends}
 

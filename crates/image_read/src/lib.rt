@@ -1,5 +1,7 @@
 // Reading the image: blocks of a lent row into a second lent set of tables, and the closing call, which copies that set to the
 // tables.
+#![tactic(auto)]
+
 ghost use Rattle.std.specs.Prelude.{◌≡◌, ◌+◌, ◌≤◌, length};
 ghost use Rattle.base.specs.Base.{any, open_used};
 ghost use Rattle.little_endian.specs.LittleEndian.{part};
