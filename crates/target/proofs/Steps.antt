@@ -1,9 +1,7 @@
 -- How the definition goes on once steps 1 to 3 refuse nothing: the refusals of steps 4 and 5, or where the path leads.
-use Rattle.base.{specs.Base.{ℕ, ◌≡◌, ◌⊎◌, Bool, true, false, ◌&&◌, List, Namespace, Checked, refuse, ◌>>=◌, ◌>>◌, refuse_if, ObjectNameInvalid, MediaWriteProtected, Request}, proofs.Laws.{◌∙◌, ⊎_elim, arith}}
-use denote.Enum.Declared.{tag_of}
+use Rattle.base.{specs.Base.{ℕ, ◌≡◌, Bool, true, false, ◌&&◌, List, Namespace, Checked, refuse, ◌>>=◌, ◌>>◌, refuse_if, ObjectNameInvalid, MediaWriteProtected, Request}, proofs.Laws.{refl, ◌∙◌}}
 use Rattle.lookup.specs.{Lookup.locate, Answers.{leaf_names, locate_parsed}}
 use Rattle.paths.specs.{Paths.parse_path, Positions.as_path, declared.ParsedPath.{ParsedPath, TheVariants.{Invalid, Root, Named}}}
-use Rattle.paths.specs.contracts.ParsedPath.{the_type}
 use Rattle.store.specs.{Request.{wants_directory, wants_file, bad_parameters, bad_access, wants_both, writes_volume}, Target.{Target, target}}
 use Rattle.target.specs.Answers.{target_there}
 
@@ -34,18 +32,18 @@ module _ (ns : Namespace) (r : Request) (path : List ℕ) where
   path_refused h e = goes_on h ∙ rw e
 
   -- step 4 does not refuse the path
-  leads : (parsed : ParsedPath) → Reached r path parsed → (tag_of the_type parsed ≡ 1) ⊎ (tag_of the_type parsed ≡ 2)
+  leads : (parsed : ParsedPath) → Reached r path parsed → (parsed ≡ Invalid → ⊥)
       → target ns r path ≡ (refuse_if (protected ns r) MediaWriteProtected >> target_of parsed)
   unfolding as_path leaf_names locate_parsed ◌>>=◌
-  leads Invalid h tag = absurd (⊎_elim (λ z. omega arith) (λ z. omega arith) tag)
-  leads Root h tag = goes_on h
-  leads (Named l) h tag = goes_on h
+  leads Invalid h valid = absurd (valid refl)
+  leads Root h valid = goes_on h
+  leads (Named l) h valid = goes_on h
 
-  module _ {parsed : ParsedPath} (h : Reached r path parsed) (tag : (tag_of the_type parsed ≡ 1) ⊎ (tag_of the_type parsed ≡ 2)) where
+  module _ {parsed : ParsedPath} (h : Reached r path parsed) (valid : parsed ≡ Invalid → ⊥) where
     pub path_protected : protected ns r ≡ true → target ns r path ≡ refuse MediaWriteProtected
     unfolding refuse_if ◌>>◌
-    path_protected e = leads parsed h tag ∙ rw e
+    path_protected e = leads parsed h valid ∙ rw e
 
     pub path_leads : protected ns r ≡ false → target ns r path ≡ target_of parsed
     unfolding refuse_if ◌>>◌
-    path_leads e = leads parsed h tag ∙ rw e
+    path_leads e = leads parsed h valid ∙ rw e

@@ -1,4 +1,6 @@
 // What an open leads to (steps 1 to 8, and the stream of steps 10 and 11), found without looking at the opens.
+#![tactic(auto)]
+
 ghost use Prim.Native.Nat.{ℕ};
 ghost use mathlib.Core.Path.{◌≡◌};
 ghost use mathlib.Core.Bool.{cond};
