@@ -1,5 +1,7 @@
 // What an open would do, once its target is found and before its sharing is checked (step 9, and the access part of steps 10
 // and 11).
+#![tactic(auto)]
+
 ghost use Rattle.std.specs.Prelude.{ℕ, ◌≡◌, cond, List, [], ◌∷◌, length};
 ghost use Rattle.lists.specs.Lists.{one_of};
 ghost use Rattle.records.specs.Constants.{open_only, open_if, add_subdirectory, add_file};
