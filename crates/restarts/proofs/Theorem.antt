@@ -19,11 +19,14 @@ ran : (t : Tables) (m : Model) (written : List (List ℕ)) → Kept t m written 
     → Ran m (run_events store_event t events) (run_events model_event m events)
 unfolding run_events answered own_restarts written_after own_restart
 ran t m written kept [] own = ran_none kept.related
-ran t m written kept (calls c ∷ es) own = let q = call_kept kept c in ran_next q.0 (ran _ _ _ q.1 es own)
-ran t m written kept (writes first long ∷ es) own = let q = write_kept kept first long in ran_next q.0 (ran _ _ _ q.1 es own)
+ran t m written kept (calls c ∷ es) own = let q = call_kept kept c in
+    ran_next q.0 (ran (store_event t (calls c)).state (model_event m (calls c)).state (written_after t (calls c) written) q.1 es own)
+ran t m written kept (writes first long ∷ es) own = let q = write_kept kept first long in
+    ran_next q.0
+    (ran (store_event t (writes first long)).state (model_event m (writes first long)).state (written_after t (writes first long) written) q.1 es own)
 ran t m written kept (restarts rows ∷ es) own =
     same_count (restart_count m rows)
-    (ran _ _ _ (restart_kept kept rows (and_left _ _ own)) es (and_right (own_restart written (restarts rows)) _ own))
+    (ran (store_event t (restarts rows)).state (model_event m (restarts rows)).state written (restart_kept kept rows (and_left _ _ own)) es (and_right (own_restart written (restarts rows)) _ own))
 
 pub every_sequence_with_restarts : EverySequenceWithRestarts
 unfolding fresh_model any
