@@ -1,4 +1,6 @@
 // Whether a pending open is accepted (the sharing check, step 10's share-read rule and step 12), and where its records go.
+#![tactic(auto)]
+
 ghost use Rattle.std.specs.Prelude.{ℕ, ◌≡◌, not, List, length};
 ghost use Rattle.records.specs.Terms.{Terms};
 ghost use Rattle.records.specs.Namespace.{namespace};
