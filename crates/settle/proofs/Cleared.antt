@@ -1,5 +1,5 @@
 -- A table cleared from its front, a record a turn: what is left of it from a place on.
-use Rattle.base.{specs.Base.{ℕ, zero, suc, ◌+◌, ◌≤◌, ◌<◌, ◌≡◌, Bool, true, false, cond, List, [], ◌∷◌, length, get_or, set, map, Tables}, proofs.Laws.{refl, sym, ◌∙◌, ap, arith, cond_true, cond_false}}
+use Rattle.base.{specs.Base.{ℕ, zero, suc, ◌+◌, ◌≤◌, ◌<◌, ◌≡◌, Bool, true, false, List, [], ◌∷◌, length, get_or, set, Tables}, proofs.Laws.{refl, sym, ◌∙◌, ap, arith}}
 use native.Mathlib.Numerals.{add-one}
 use Rattle.layout.specs.Layout.{tables_size, decode, stands_for_tables, Changed}
 use Rattle.store.specs.Close.{cleared}

@@ -1,4 +1,6 @@
 // What becomes of the file and the stream of an open that was closed: decided by what the tables hold, and written.
+#![tactic(auto)]
+
 ghost use Rattle.std.specs.Prelude.{◌≡◌, length};
 ghost use Rattle.consistency.specs.Relations.{link_to, stream_of};
 ghost use Rattle.layout.specs.Layout.{tables_size, decode, Changed};
@@ -41,6 +43,7 @@ fn of_named_stream(b: &[u8], o: Open) -> bool
 }
 
 // A delete-on-close open marks its file, unless that has children.
+#[tactic(auto, unfolding(store::specs::Close::marks_file))]
 fn marks_file(b: &[u8], o: Open) -> bool
     requires { length b.now ≡ tables_size }
     ensures { result ≡ marks_file (namespace (decode b.now).volume) o }
