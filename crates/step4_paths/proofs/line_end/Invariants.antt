@@ -1,5 +1,5 @@
 -- The loop's invariant: the place sought is not before i.
-use Rattle.base.{specs.Base.{◌-◌, length}}
+use Rattle.base.specs.Base.{◌-◌, length}
 use Rattle.components.{specs.Positions.{no_sign}, proofs.Leading.{Seeking}}
 use Rattle.step4_paths.proofs.line_end.Given as goal
 
