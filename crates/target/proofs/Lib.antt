@@ -1,3 +1,4 @@
 -- Laws that the proofs of the steps cite.
 pub mod Streams
 pub mod Steps
+pub mod Directories

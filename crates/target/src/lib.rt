@@ -88,6 +88,7 @@ fn check_type(r: Request, leaf: LeafParts, is_dir: bool) -> TypeCheck
 }
 
 // Step 10: a found directory is opened and nothing else. A consistent one has its stream.
+#[tactic(auto, using(crate::proofs::Directories::root_denied, crate::proofs::Directories::directory_collides), unfolding(open_steps::specs::Targets::as_target))]
 fn target_directory(b: &[u8], r: Request, at: FoundFile) -> FoundTarget
     requires { length b.now ≡ tables_size }
     ensures { (path : List ℕ) → as_target path result ≡ target_directory (namespace (decode b.now).volume) r (as_resolved at) }

@@ -1,5 +1,5 @@
 -- The steps in the definition's order.
-use Rattle.base.{specs.Base.{◌≡◌, Bool, ◌&&◌, namespace, ◌>>◌, refuse_if}, proofs.Laws.{sym, ◌∙◌}}
+use Rattle.base.{specs.Base.{◌≡◌, Bool, ◌&&◌, namespace, ◌>>◌, refuse_if}, proofs.Laws.{sym}}
 use Rattle.layout.specs.Layout.{decode}
 use Rattle.open_steps.specs.Targets.{as_target}
 use Rattle.store.specs.Target.{target}
@@ -9,17 +9,15 @@ use Rattle.target.proofs.find_target.Goals.{After-parse_path-parsed, After-write
 
 pub returns-then-parameters : goal.returns-then-parameters
 unfolding as_target target refuse_if ◌>>◌
-returns-then-parameters c = rw (← c.bad_parameters-parameters.ensures, c.if-parameters.true)
+returns-then-parameters c = rw (← c.if-parameters.ensures)
 
 pub returns-then-access : goal.returns-then-access
 unfolding as_target target refuse_if ◌>>◌
-returns-then-access c =
-    rw (← c.bad_parameters-parameters.ensures, c.if-parameters.false, ← c.bad_access-access.ensures, c.if-access.true)
+returns-then-access c = rw (← c.if-parameters.ensures, ← c.if-access.ensures)
 
 pub returns-then-types : goal.returns-then-types
 unfolding as_target target refuse_if ◌>>◌
-returns-then-types c =
-    rw (← c.bad_parameters-parameters.ensures, c.if-parameters.false, ← c.bad_access-access.ensures, c.if-access.false, ← c.wants_both-types.ensures, c.if-types.true)
+returns-then-types c = rw (← c.if-parameters.ensures, ← c.if-access.ensures, ← c.if-types.ensures)
 
 -- steps 1 to 3 refuse nothing
 reached : (p : After-parse_path-parsed) →
@@ -27,9 +25,9 @@ reached : (p : After-parse_path-parsed) →
     Reached s.r s.path.now p.parse_path-parsed.result
 reached p =
     record {
-      parameters = sym p.bad_parameters-parameters.ensures ∙ p.if-parameters.false;
-      access = sym p.bad_access-access.ensures ∙ p.if-access.false;
-      types = sym p.wants_both-types.ensures ∙ p.if-types.false;
+      parameters = sym p.if-parameters.ensures;
+      access = sym p.if-access.ensures;
+      types = sym p.if-types.ensures;
       is = rw (← p.wants_directory-directory.ensures, ← p.wants_file-file.ensures) p.parse_path-parsed.ensures.is;
     }
 

@@ -1,18 +1,8 @@
-use Rattle.base.{specs.Base.{◌>>=◌, ◌>>◌, refuse_if, some_or}, proofs.Laws.{sym, ◌∙◌, eq-eqb, ne_eqb}}
+use Rattle.base.{specs.Base.{◌>>=◌, ◌>>◌, refuse_if, some_or}, proofs.Laws.{sym, ◌∙◌}}
 use Rattle.open_steps.specs.Targets.{as_resolved, as_target}
 use Rattle.store.specs.Target.{target_directory}
 use Rattle.target.proofs.{Streams.{stream_at, stream_missing}}
 use Rattle.target.proofs.target_directory.Goals as goal
-
-pub returns-then-at-eq0 : goal.returns-then-at-eq0
-unfolding as_target as_resolved target_directory refuse_if ◌>>◌
-returns-then-at-eq0 c path =
-    rw (← c.only_opens.ensures, c.if-not-only_opens.true, eq-eqb _ _ c.if-at-eq0.true)
-
-pub returns-then-not-only_opens : goal.returns-then-not-only_opens
-unfolding as_target as_resolved target_directory refuse_if ◌>>◌
-returns-then-not-only_opens c path =
-    rw (← c.only_opens.ensures, c.if-not-only_opens.true, ne_eqb _ _ c.if-at-eq0.false)
 
 pub returns-in-At : goal.returns-in-At
 unfolding as_target as_resolved target_directory refuse_if some_or ◌>>◌ ◌>>=◌
