@@ -148,6 +148,7 @@ pub fn without_open(o: Open, c: ShareCounts) -> ShareCounts
 }
 
 // The share check of an open that is among those counted, against the others: the counts less its own part.
+#[tactic(auto, unfolding(crate::specs::Others::others_check))]
 pub fn others_check(c: ShareCounts, o: Open) -> bool
     ensures { result ≡ others_check c o }
 {

@@ -17,11 +17,13 @@ slice_bounds-in_chain-end c = sym c.loop-i.invariant.0.next_size
 
 pub returns-then-in_chain : goal.returns-then-in_chain
 returns-then-in_chain c =
-    let l = c in
-    let keys = l.args.keys.now in
+    let keys = c.args.keys.now in
+    let key = get_or keys c.loop-i.i 0 in
+    let some : key ≡ 0 → ⊥ = λ e. let z : ⊥ = omega arith in z in
+    let q = walked keys c.loop-i.i c.loop-i.invariant.0 (omega arith) (omega arith) some c.bucket-b.ensures.0 in
     sym
-    (distinct_not keys l.loop-i.i (omega arith) (is_key_lem (get_or keys l.loop-i.i 0) c.if-key-ne0.true)
-    (sym (walked keys c.loop-i.i c.loop-i.invariant.0 (omega arith) (omega arith) c.if-key-ne0.true c.bucket-b.ensures.0).1 ∙ sym (c.in_chain.ensures (walked keys c.loop-i.i c.loop-i.invariant.0 (omega arith) (omega arith) c.if-key-ne0.true c.bucket-b.ensures.0).0) ∙ c.if-in_chain.true))
+    (distinct_not keys c.loop-i.i (omega arith) (is_key_lem key some)
+    (sym q.1 ∙ sym (c.in_chain.ensures q.0) ∙ c.if-in_chain.true))
 
 pub loop-i-preserved : goal.loop-i-preserved
 loop-i-preserved c =
