@@ -104,6 +104,7 @@ fn add_right(r: Request) -> u32
 
 // Step 9: a temporary directory is refused first, then a read-only file that would be deleted on close, then by the
 // parent's mask.
+#[tactic(auto, using(crate::proofs::NewFiles::temporary_refused, crate::proofs::NewFiles::kept, crate::proofs::NewFiles::mask_refuses, crate::proofs::NewFiles::file_admitted), unfolding(open_steps::specs::Pendings::as_pending, open_steps::specs::Pendings::as_file, store::specs::Prepare::file_new))]
 fn admit_file(b: &[u8], r: Request, dir: FileNo, leaf: LeafParts) -> PendingOpen
     requires { length b.now ≡ tables_size }
     ensures { (path : List ℕ) → as_pending (decode b.now).volume.files path result ≡ admit_file (namespace (decode b.now).volume) r dir (as_leaf path leaf) }

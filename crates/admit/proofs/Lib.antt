@@ -1,0 +1,2 @@
+-- Laws that the proofs of what an open would do cite.
+pub mod NewFiles
