@@ -43,7 +43,7 @@ fn of_named_stream(b: &[u8], o: Open) -> bool
 }
 
 // A delete-on-close open marks its file, unless that has children.
-#[tactic(auto, unfolding(store::specs::Close::marks_file))]
+#[tactic(auto, unfolding(store::specs::Close::marks_file, records::specs::Namespace::namespace))]
 fn marks_file(b: &[u8], o: Open) -> bool
     requires { length b.now ≡ tables_size }
     ensures { result ≡ marks_file (namespace (decode b.now).volume) o }
@@ -58,6 +58,7 @@ fn marks_file(b: &[u8], o: Open) -> bool
 }
 
 // One of a named stream marks that stream alone.
+#[tactic(auto, unfolding(store::specs::Close::marks_stream))]
 fn marks_stream(b: &[u8], o: Open) -> bool
     requires { length b.now ≡ tables_size }
     ensures { result ≡ marks_stream (namespace (decode b.now).volume) o }
@@ -66,6 +67,7 @@ fn marks_stream(b: &[u8], o: Open) -> bool
 }
 
 // A file that is marked, before or now, goes when no open on any of its streams remains.
+#[tactic(auto, unfolding(store::specs::Close::removes_file, store::specs::Store::store_view, records::specs::Namespace::namespace))]
 fn removes_file(b: &[u8], o: Open) -> bool
     requires { length b.now ≡ tables_size }
     ensures { result ≡ removes_file (store_view (decode b.now)) (namespace (decode b.now).volume) o }
@@ -77,6 +79,7 @@ fn removes_file(b: &[u8], o: Open) -> bool
 }
 
 // A stream that is, when none on it does.
+#[tactic(auto, unfolding(store::specs::Close::removes_stream, store::specs::Store::store_view, records::specs::Namespace::namespace, records::specs::Namespace::bare), using(consistency::proofs::Derived::bare_at_lem))]
 fn removes_stream(b: &[u8], o: Open) -> bool
     requires { length b.now ≡ tables_size }
     ensures { result ≡ removes_stream (store_view (decode b.now)) (namespace (decode b.now).volume) o }
@@ -87,6 +90,7 @@ fn removes_stream(b: &[u8], o: Open) -> bool
     !stream_has_open(b, o.stream)
 }
 
+#[tactic(auto, unfolding(store::specs::Close::close_effect, crate::specs::Settled::as_effect))]
 fn close_effect(b: &[u8], o: Open) -> CloseEffect
     requires { length b.now ≡ tables_size }
     ensures { as_effect result ≡ close_effect (store_view (decode b.now)) (namespace (decode b.now).volume) o }
@@ -150,6 +154,7 @@ fn mark_stream(b: &mut [u8], n: StreamNo)
 }
 
 // A used link names the file.
+#[tactic(auto, unfolding(consistency::specs::Relations::link_to))]
 fn links_to(b: &[u8], n: LinkNo, f: FileNo) -> bool
     requires { length b.now ≡ tables_size }
     ensures { result ≡ link_to f (link_at (decode b.now).volume.links n) }
@@ -158,6 +163,7 @@ fn links_to(b: &[u8], n: LinkNo, f: FileNo) -> bool
 }
 
 // A used stream is the file's.
+#[tactic(auto, unfolding(consistency::specs::Relations::stream_of, records::specs::Namespace::bare, records::specs::Namespace::bare_used))]
 fn stream_of(b: &[u8], n: StreamNo, f: FileNo) -> bool
     requires { length b.now ≡ tables_size }
     ensures { result ≡ stream_of f (bare (stream_at (decode b.now).volume.streams n)) }

@@ -20,11 +20,13 @@ loop-i-preserved c =
     let i = c.loop-i.i in
     let n = links_count c.loop-i.b in
     elim c.if-links_to.branch [
-      | then-links_to w ↦ rw w.b-is
+      | then-links_to w ↦
+          rw w.b-is
           (goes_on c.loop-i.invariant (rest f (i + 1)) w.write_link.ensures
           (ap (with_links t)
           (cleared_here (link_to f) zero_link t.volume.links i zero_link (omega arith) (sym c.links_to.ensures ∙ w.if-links_to.true))))
-      | else-links_to w ↦ rw w.b-is
+      | else-links_to w ↦
+          rw w.b-is
           (skips c.loop-i.invariant (rest f (i + 1))
           (ap (with_links t)
           (cleared_past (link_to f) zero_link t.volume.links i zero_link (omega arith) (sym c.links_to.ensures ∙ w.if-links_to.false))))
@@ -36,6 +38,3 @@ returns c =
     let n = links_count c.loop-i.b in
     ends c.loop-i.invariant
     (ap (with_links t) (cleared_end (link_to c.args.f) zero_link t.volume.links c.loop-i.i (omega arith)))
-
-pub links_to-requires : goal.links_to-requires
-links_to-requires c = c.loop-i.invariant.long

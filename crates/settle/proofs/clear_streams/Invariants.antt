@@ -6,6 +6,7 @@ use Rattle.settle.specs.Settled.{with_streams, without_streams}
 use Rattle.settle.proofs.{Cleared.{cleared_from, Underway}}
 use Rattle.settle.proofs.clear_streams.Given as goal
 
+-- what passes
 abbrev pub of : FileNo → Stream → Bool
 of f s = stream_of f (bare s)
 
