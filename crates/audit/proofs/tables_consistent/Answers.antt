@@ -69,7 +69,9 @@ returns-then-not-opens_consistent c =
 pub returns-then-not-no_conflicts : goal.returns-then-not-no_conflicts
 unfolding consistent
 returns-then-not-no_conflicts c =
-    let good = says c.opens_consistent.ensures c.if-not-opens_consistent.false in
+    let b = c.args.b.now in
+    -- looked for by what it says, whichever call stands before
+    let good : (good_opens b && true_counts b) ≡ true = search says in
     sym
     (rw (
       consistent,
@@ -77,19 +79,21 @@ returns-then-not-no_conflicts c =
       says c.links_consistent.ensures c.if-not-links_consistent.false,
       says c.streams_consistent.ensures c.if-not-streams_consistent.false,
       good,
-      says (no_conflict_lem c.args.b.now good c.no_conflicts.ensures) c.if-not-no_conflicts.true,
+      says (no_conflict_lem b good c.no_conflicts.ensures) c.if-not-no_conflicts.true,
     ))
 
 pub returns : goal.returns
 unfolding consistent
 returns c =
-    let good = says c.opens_consistent.ensures c.if-not-opens_consistent.false in
+    let b = c.args.b.now in
+    -- looked for by what it says, whichever call stands before
+    let good : (good_opens b && true_counts b) ≡ true = search says in
     rw (
       consistent,
       says c.files_consistent.ensures c.if-not-files_consistent.false,
       says c.links_consistent.ensures c.if-not-links_consistent.false,
       says c.streams_consistent.ensures c.if-not-streams_consistent.false,
       good,
-      says (no_conflict_lem c.args.b.now good c.no_conflicts.ensures) c.if-not-no_conflicts.false,
+      says (no_conflict_lem b good c.no_conflicts.ensures) c.if-not-no_conflicts.false,
     )
     c.marks_consistent.ensures
