@@ -1,4 +1,4 @@
---
+-- A stream that the path names goes into the first free slot after the unnamed one.
 use native.Mathlib.Numerals.{add-one}
 use Rattle.free_slots.specs.Free.{stream_slot}
 use Rattle.complete.specs.Placing.{opened_slot}
