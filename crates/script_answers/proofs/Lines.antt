@@ -1,5 +1,5 @@
 -- A line answered on lent bytes, by what it asks.
-use Rattle.base.{specs.Base.{ℕ, ◌≡◌, List, none, some, take, drop, Answer, Handle, Request}, proofs.Laws.{refl, sym, ◌∙◌}}
+use Rattle.base.{specs.Base.{ℕ, ◌≡◌, List, some, take, drop, Answer, Handle, Request}, proofs.Laws.{refl, sym, ◌∙◌}}
 use Rattle.call_contracts.{specs.Performs.Performs, proofs.Sequences.{open_made, close-made}}
 use Rattle.reply_numbers.specs.Numbers.{answer_seen}
 use Rattle.script_lines.{specs.{Lines.{line_limit, parse_line}, Print.{printed, unknown_line}, Script.{performed, answered}, Found.{as_call, Prints}, declared.{Printed.Printed, AskedLine.{AskedLine, TheVariants.{Unknown, Open, Close}}}}, proofs.Asked.path_fits}

@@ -41,9 +41,11 @@ script_alike : {t : Tables} {m : Model} → Related t m → (lines : List (List 
     → script store_step t lines ≡ script model_step m lines
 unfolding script answered
 script_alike related [] = refl
-script_alike related (line ∷ lines) =
+script_alike {t = t} {m = m} related (line ∷ lines) =
     let now = line_alike related (parse_line line) in
-    ap₂ (λ (x y : List ℕ). x ++ y) now.bytes (script_alike now.related lines)
+    ap₂ (λ (x y : List ℕ). x ++ y) now.bytes
+    (script_alike {t = (performed store_step t (parse_line line)).state} {m = (performed model_step m (parse_line line)).state}
+    now.related lines)
 
 -- what format leaves is what a sequence of no calls leaves
 pub every_script : EveryScript

@@ -1,4 +1,6 @@
 // The script's lines answered on the lent tables.
+#![tactic(auto)]
+
 ghost use Rattle.script_answers.specs.Answers.{AnswersLine};
 
 use calls::{close, open};
