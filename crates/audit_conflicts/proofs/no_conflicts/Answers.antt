@@ -1,4 +1,4 @@
-use Rattle.base.{specs.Base.{open_used, zero_open}, proofs.Laws.{refl, sym, ◌∙◌, arith, not_both, all_kept_fails, all_kept_past, all_kept_end}}
+use Rattle.base.{specs.Base.{◌≡◌, true, open_used, zero_open}, proofs.Laws.{refl, sym, ◌∙◌, arith, rules, not_both, all_kept_fails, all_kept_past, all_kept_end}}
 use Rattle.layout.{specs.Layout.decode, proofs.Lengths.opens_count}
 use Rattle.tables.specs.Tables.{row_at, live}
 use Rattle.audit_conflicts.specs.Others.{agrees_with_others, others_test}
@@ -14,10 +14,11 @@ unfolding row_at
 returns-then-others_check c =
     let b = c.args.b.now in
     let size = opens_count b in
+    let used : c.open_used.result ≡ true = search rules in
     sym
     (c.loop-i.invariant
     ∙ all_kept_fails (decode b).opens.rows c.loop-i.i zero_open (omega arith) open_used
-    (agrees_with_others (decode b).volume.streams) (rw (← c.read_open-o.ensures, ← c.open_used.ensures) c.if-open_used.true)
+    (agrees_with_others (decode b).volume.streams) (rw (← c.read_open-o.ensures, ← c.open_used.ensures) used)
     (rw (← c.read_open-o.ensures, ← c.read_counts.ensures, ← c.others_check.ensures, c.if-others_check.true)))
 
 pub loop-i-preserved : goal.loop-i-preserved
