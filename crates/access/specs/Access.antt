@@ -1,5 +1,6 @@
 -- The access rule.
-use Rattle.base.specs.Base.{ℕ, cond, not, ◌&&◌, ◌||◌, eqb, within, has, without, read_only, maximum_allowed, is_data, mask_of, Checked, passed, refuse, AccessDenied, File}
+use Rattle.std.specs.Prelude.{◌&&◌, ◌||◌}
+use Rattle.base.specs.Base.{ℕ, cond, not, eqb, within, has, without, read_only, maximum_allowed, is_data, mask_of, Checked, passed, refuse, AccessDenied, File}
 use Rattle.access.specs.declared.Access.{Access, TheVariants.{Granted, Denied}}
 
 -- effective: the account's mask on the file, less 0x6 for a data file with attribute 0x1

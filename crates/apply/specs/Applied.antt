@@ -1,6 +1,6 @@
 -- What the writes of a decided call leave.
-use Rattle.base.specs.Base.{ℕ, suc, ◌≡◌, List, length, set, file_name_limit, stream_name_limit, last_handle, with_counts, Tables, LinkNo, StreamNo, Link, BareStream, Open}
-use Rattle.std.specs.Prelude.{min}
+use Rattle.base.specs.Base.{ℕ, suc, List, length, set, file_name_limit, stream_name_limit, last_handle, with_counts, Tables, LinkNo, StreamNo, Link, BareStream, Open}
+use Rattle.std.specs.Prelude.{min, ◌≡◌}
 use Rattle.codecs.specs.Codec.{Each}
 use Rattle.layout.specs.{Layout.{tables_size, Changed}, Puts.put_stream}
 use Rattle.sharing.specs.{Sharing.without_open, Saturating.{count_limit, with_open_up_to}}

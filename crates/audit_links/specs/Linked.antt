@@ -1,5 +1,6 @@
 -- The links of a file by two tables, which have at each file's number how many links name it, and its parent.
-use Rattle.base.specs.Base.{ℕ, zero, suc, Bool, true, false, cond, not, ◌&&◌, ◌||◌, List, eqb, get_or, file_slots, file_used, File}
+use Rattle.std.specs.Prelude.{◌&&◌, ◌||◌}
+use Rattle.base.specs.Base.{ℕ, zero, suc, Bool, true, false, cond, not, List, eqb, get_or, file_slots, file_used, File}
 
 -- the root is at most a number of steps up; past the table's end a file is its own parent
 unfoldable pub leads : List ℕ → ℕ → ℕ → Bool

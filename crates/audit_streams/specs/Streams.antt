@@ -1,6 +1,7 @@
 -- What the functions below `streams_consistent` decide: of a slot against a stream, and of a file by how many streams were
 -- counted.
-use Rattle.base.specs.Base.{ℕ, Bool, not, ◌&&◌, ◌||◌, List, eqb, get_or, is_used, is_directory, BareStream, bare_used, FileType, File}
+use Rattle.std.specs.Prelude.{◌&&◌, ◌||◌}
+use Rattle.base.specs.Base.{ℕ, Bool, not, List, eqb, get_or, is_used, is_directory, BareStream, bare_used, FileType, File}
 use Rattle.consistency.specs.Good.{stream_names_differ}
 
 -- slot q is free, or differs from s in file or name

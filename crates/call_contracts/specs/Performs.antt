@@ -1,5 +1,6 @@
 -- What a call on lent bytes promises: the definition's answer, and its tables in bytes.
-use Rattle.base.specs.Base.{ℕ, ◌≡◌, true, List, Tables, Step, Answers, Answer}
+use Rattle.std.specs.Prelude.{◌≡◌}
+use Rattle.base.specs.Base.{ℕ, true, List, Tables, Step, Answers, Answer}
 use Rattle.layout.specs.{Layout.{decode, stands_for_tables}, Calls.on_bytes}
 
 -- bytes that stand for these tables

@@ -1,5 +1,6 @@
 -- Demand 3 of the calls on lent bytes: the statement about every sequence of calls from a format that succeeded.
-use Rattle.base.specs.Base.{ℕ, ◌≡◌, Bool, List, [], ◌∷◌, map, seen, Answers, Answer, Tables, Done}
+use Rattle.std.specs.Prelude.{◌≡◌, ◌∷◌}
+use Rattle.base.specs.Base.{ℕ, Bool, List, [], map, seen, Answers, Answer, Tables, Done}
 use Rattle.format.specs.{Format.format, Bytes.format_bytes}
 use Rattle.layout.specs.Layout.{decode}
 use Rattle.reply_numbers.specs.Numbers.{answer_seen}

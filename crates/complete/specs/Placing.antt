@@ -1,5 +1,6 @@
 -- The code's answers as the definitions' (the sharing check, step 10's end and step 12).
-use Rattle.base.specs.Base.{ℕ, suc, ◌≡◌, Bool, cond, List, some, Namespace, Checked, passed, refuse, ◌>>=◌, Terms, Tables, namespace, DiskFull, CreateAction, StreamNo, Handle, Open}
+use Rattle.std.specs.Prelude.{◌≡◌}
+use Rattle.base.specs.Base.{ℕ, suc, Bool, cond, List, some, Namespace, Checked, passed, refuse, ◌>>=◌, Terms, Tables, namespace, DiskFull, CreateAction, StreamNo, Handle, Open}
 use Rattle.free_slots.specs.Free.{free_file, free_link, free_stream}
 use Rattle.open_steps.specs.{Pendings.terms_over, Decisions.as_decision, declared.{FileSlots.FileSlots, DecidedOpen.{DecidedOpen, TheVariants.{Refused, Accepted}}}}
 use Rattle.open_table.specs.Rows.{free_row}

@@ -1,5 +1,6 @@
 -- Step 4: a path's components.
-use Rattle.base.specs.Base.{ℕ, cond, not, List, [], ◌∷◌, eqb, is_empty, keep}
+use Rattle.std.specs.Prelude.{◌∷◌}
+use Rattle.base.specs.Base.{ℕ, cond, not, List, [], eqb, is_empty, keep}
 use Rattle.units.specs.Units.{backslash}
 
 -- the parts of a list between separators, one more than there are separators

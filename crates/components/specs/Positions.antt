@@ -1,5 +1,6 @@
 -- Step 4: positions in a path, as the code finds them.
-use Rattle.base.specs.Base.{ℕ, suc, ◌+◌, ◌≤◌, Bool, not, cond, List, [], ◌∷◌, eqb, length, take, drop, slice}
+use Rattle.std.specs.Prelude.{◌+◌, ◌≤◌, ◌∷◌}
+use Rattle.base.specs.Base.{ℕ, suc, Bool, not, cond, List, [], eqb, length, take, drop, slice}
 use Rattle.units.specs.Units.{backslash}
 use Rattle.components.specs.{Components.components, declared.Part.Part}
 

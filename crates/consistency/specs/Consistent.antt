@@ -1,7 +1,8 @@
 -- Consistent tables (document 01: "Tables are sound when"), as statements: a record for each table, over those that it
 -- refers to, so that a change to one table leaves the other groups alone. Good has the clauses of a slot by itself and
 -- of two.
-use Rattle.base.specs.Base.{ℕ, ◌≤◌, ◌<◌, ◌≡◌, true, false, List, ◌≢◌, length, get_or, count, file_slots, link_slots, stream_slots, open_slots, root, zero_file, zero_link, zero_open, is_directory, file_used, link_used, open_used, BareStream, zero_bare, bare_used, bare_at, namespace, FileNo, StreamNo, File, Link, Stream, Open, OpenTable, Volume}
+use Rattle.std.specs.Prelude.{◌≤◌, ◌<◌, ◌≡◌, ◌≢◌}
+use Rattle.base.specs.Base.{ℕ, true, false, List, length, get_or, count, file_slots, link_slots, stream_slots, open_slots, root, zero_file, zero_link, zero_open, is_directory, file_used, link_used, open_used, BareStream, zero_bare, bare_used, bare_at, namespace, FileNo, StreamNo, File, Link, Stream, Open, OpenTable, Volume}
 use Rattle.sharing.specs.Sharing.{counts_of}
 use Rattle.tables.specs.Tables.{file_at, stream_at, live, file_has_open, stream_has_open}
 use Rattle.consistency.specs.{Relations.{type_at, link_to, has_children, stream_of, unnamed_of, climb}, Slots.{Slots, EveryTwo}, Good.{GoodFile, GoodLink, LinkNamesDiffer, GoodStream, StreamNamesDiffer, GoodOpen, HandlesDiffer, OpensAgree}}

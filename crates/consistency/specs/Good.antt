@@ -1,7 +1,8 @@
 -- What a used slot of each table is by itself, and what two are to each other (document 01: "Tables are sound when"): a
 -- field for each clause, and the same as a test. What a slot asks of a record of another table stands beside it. And of a
 -- free slot, one without kind, link name or handle, the test that the rest is zero too.
-use Rattle.base.specs.Base.{ℕ, ◌≤◌, ◌<◌, ◌≡◌, Bool, true, false, not, ◌&&◌, ◌≢◌, eqb, leb, ltb, replicate, within, has, same, file_name_limit, stream_name_limit, accounts, directory, file_attributes, all_access, share_all, is_empty, root, is_used, is_directory, BareStream, bare_used, FileType, File, Link, Terms, terms_of, Open}
+use Rattle.std.specs.Prelude.{◌≤◌, ◌<◌, ◌≡◌, ◌&&◌, ◌≢◌}
+use Rattle.base.specs.Base.{ℕ, Bool, true, false, not, eqb, leb, ltb, replicate, within, has, same, file_name_limit, stream_name_limit, accounts, directory, file_attributes, all_access, share_all, is_empty, root, is_used, is_directory, BareStream, bare_used, FileType, File, Link, Terms, terms_of, Open}
 use Rattle.std.specs.Bool.{beq}
 use Rattle.names.specs.Names.{valid_file_name, valid_stream_name}
 use Rattle.sharing.specs.Sharing.{conflicting}

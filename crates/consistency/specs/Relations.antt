@@ -1,5 +1,6 @@
 -- How the tables refer to each other: links to files, streams to files, parents.
-use Rattle.base.specs.Base.{ℕ, zero, suc, Bool, true, false, ◌&&◌, List, [], ◌∷◌, eqb, length, within, all, any, is_empty, accounts, all_access, link_used, BareStream, bare_used, FileType, FileNo, File, Link}
+use Rattle.std.specs.Prelude.{◌&&◌, ◌∷◌}
+use Rattle.base.specs.Base.{ℕ, zero, suc, Bool, true, false, List, [], eqb, length, within, all, any, is_empty, accounts, all_access, link_used, BareStream, bare_used, FileType, FileNo, File, Link}
 use Rattle.stored_names.specs.StoredNames.{units}
 use Rattle.tables.specs.Tables.{file_at}
 

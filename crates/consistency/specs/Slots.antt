@@ -1,5 +1,6 @@
 -- The slots of a table: as many as it holds, free ones all zero, used ones good, whatever a table asks of those.
-use Rattle.base.specs.Base.{ℕ, ◌<◌, ◌≡◌, Bool, true, false, cond, ◌&&◌, List, eqb, length, get_or, all}
+use Rattle.std.specs.Prelude.{◌<◌, ◌≡◌, ◌&&◌}
+use Rattle.base.specs.Base.{ℕ, Bool, true, false, cond, List, eqb, length, get_or, all}
 
 pub record Slots {A : Type 0} (used : A → Bool) (zero : A) (Good : A → Type 0) (n : ℕ) (xs : List A) : Type 0 where
   pub size : length xs ≡ n

@@ -1,5 +1,6 @@
 -- Consistency as a test that computes. proofs/ shows that it answers true exactly when the tables are Consistent.
-use Rattle.base.specs.Base.{ℕ, Bool, cond, not, ◌&&◌, ◌||◌, List, eqb, leb, all_from, count, keep, pairs, file_slots, link_slots, stream_slots, open_slots, root, is_directory, file_used, link_used, open_used, BareStream, bare_used, bare_at, namespace, FileNo, File, Link, ShareCounts, Stream, Open, OpenTable, Volume}
+use Rattle.std.specs.Prelude.{◌&&◌, ◌||◌}
+use Rattle.base.specs.Base.{ℕ, Bool, cond, not, List, eqb, leb, all_from, count, keep, pairs, file_slots, link_slots, stream_slots, open_slots, root, is_directory, file_used, link_used, open_used, BareStream, bare_used, bare_at, namespace, FileNo, File, Link, ShareCounts, Stream, Open, OpenTable, Volume}
 use Rattle.sharing.specs.Sharing.{counts_of}
 use Rattle.tables.specs.Tables.{live, file_has_open, stream_has_open}
 use Rattle.consistency.specs.{Relations.{type_at, link_to, has_children, stream_of, unnamed_of, reaches}, Slots.slots_test, Good.{good_file, is_zero_file, good_link, is_zero_link, link_names_differ, good_stream, is_zero_stream, stream_names_differ, good_open, is_zero_open, handles_differ, opens_agree}}

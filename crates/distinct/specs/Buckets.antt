@@ -1,6 +1,6 @@
 -- The buckets, for the functions below `distinct`. A pointer is a place plus one, 0 for none; `last` says what each must be.
-use Rattle.base.specs.Base.{ℕ, zero, suc, ◌≤◌, ◌<◌, ◌≡◌, Bool, true, false, cond, ◌&&◌, ◌||◌, List, length, get_or, eqb, leb}
-use Rattle.std.specs.Prelude.{◌%◌}
+use Rattle.base.specs.Base.{ℕ, zero, suc, Bool, true, false, cond, List, length, get_or, eqb, leb}
+use Rattle.std.specs.Prelude.{◌%◌, ◌≤◌, ◌<◌, ◌≡◌, ◌&&◌, ◌||◌}
 use Rattle.distinct.specs.Keys.{is_key}
 
 abbrev pub buckets : ℕ

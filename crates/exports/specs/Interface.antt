@@ -1,6 +1,6 @@
 -- What the numbers and bytes of the C interface stand for.
-use Rattle.std.specs.Prelude.{◌/◌, ◌%◌}
-use Rattle.base.specs.Base.{ℕ, ◌*◌, Bool, not, cond, List, [], ◌∷◌, eqb, length, replicate, accounts, path_limit, suc, Seen, Request}
+use Rattle.std.specs.Prelude.{◌/◌, ◌%◌, ◌*◌, ◌∷◌}
+use Rattle.base.specs.Base.{ℕ, Bool, not, cond, List, [], eqb, length, replicate, accounts, path_limit, suc, Seen, Request}
 use Rattle.codecs.specs.Codec.{number, decode_row}
 use Rattle.reply_numbers.specs.Numbers.{action_or}
 

@@ -1,5 +1,6 @@
 -- What an exported call promises: its numbers and every byte of the tables, whatever bytes and numbers it is given.
-use Rattle.base.specs.Base.{ℕ, ◌≡◌, true, Bool, List, take, length, ◌≤◌, suc, accounts, path_limit, Tables, Step, Seen, seen}
+use Rattle.std.specs.Prelude.{◌≡◌, ◌≤◌}
+use Rattle.base.specs.Base.{ℕ, true, Bool, List, take, length, suc, accounts, path_limit, Tables, Step, Seen, seen}
 use Rattle.call_contracts.specs.Performs.{StandFor}
 use Rattle.layout.specs.{Layout.{decode, stands_for_tables}, Calls.on_bytes}
 use Rattle.paths.specs.Paths.{parse_path}

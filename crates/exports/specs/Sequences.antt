@@ -1,5 +1,6 @@
 -- Demand 3 of the exported calls: the statement about every sequence of them from a format that succeeded.
-use Rattle.base.specs.Base.{ℕ, ◌≡◌, Bool, cond, List, [], ◌∷◌, ◌++◌, Tables, Seen, seen, Step, Handle}
+use Rattle.std.specs.Prelude.{◌≡◌, ◌∷◌, ◌++◌}
+use Rattle.base.specs.Base.{ℕ, Bool, cond, List, [], Tables, Seen, seen, Step, Handle}
 use Rattle.audit.specs.Sound.{sound_bytes}
 use Rattle.call_contracts.specs.Performs.{StandFor}
 use Rattle.consistency.specs.Relations.{valid_masks}

@@ -1,5 +1,6 @@
 -- Format: eight masks and a read-only mark make fresh tables. It needs right lengths, tested before the masks.
-use Rattle.base.specs.Base.{ℕ, Bool, false, not, ◌&&◌, List, eqb, length, replicate, set, all, file_slots, link_slots, stream_slots, open_slots, file_name_limit, stream_name_limit, accounts, directory, root, zero_file, zero_link, zero_counts, zero_stream, zero_open, Checked, passed, ◌>>◌, refuse_if, Tables, Step, done, concluded, FileCorruptError, InvalidParameter, Directory, File, Stream, Volume, OpenTable}
+use Rattle.std.specs.Prelude.{◌&&◌}
+use Rattle.base.specs.Base.{ℕ, Bool, false, not, List, eqb, length, replicate, set, all, file_slots, link_slots, stream_slots, open_slots, file_name_limit, stream_name_limit, accounts, directory, root, zero_file, zero_link, zero_counts, zero_stream, zero_open, Checked, passed, ◌>>◌, refuse_if, Tables, Step, done, concluded, FileCorruptError, InvalidParameter, Directory, File, Stream, Volume, OpenTable}
 use Rattle.consistency.specs.Relations.{valid_masks}
 
 -- "lengths are as above": of the tables, and of the arrays in their records

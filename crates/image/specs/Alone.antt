@@ -1,6 +1,7 @@
 -- What a block shows by itself: whether some image of consistent tables has it at its place. What needs two blocks to be
 -- seen waits for the closing call.
-use Rattle.base.specs.Base.{ℕ, Bool, false, not, cond, ◌&&◌, ◌||◌, List, ◌++◌, eqb, ltb, take, drop, same, is_empty, file_slots, zero_counts, is_directory, file_used, link_used, BareStream, bare_used, bare, Data, Directory, File, Link, Stream}
+use Rattle.std.specs.Prelude.{◌&&◌, ◌||◌, ◌++◌}
+use Rattle.base.specs.Base.{ℕ, Bool, false, not, cond, List, eqb, ltb, take, drop, same, is_empty, file_slots, zero_counts, is_directory, file_used, link_used, BareStream, bare_used, bare, Data, Directory, File, Link, Stream}
 use Rattle.consistency.specs.{Slots.slot_test, Good.{good_file, is_zero_file, good_link, is_zero_link, good_stream, is_zero_stream}, Test.same_counts}
 use Rattle.layout.specs.Records.{mark_codec, handle_codec, file_codec, link_codec, stream_codec}
 use Rattle.little_endian.specs.LittleEndian.{part}

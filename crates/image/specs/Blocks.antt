@@ -1,7 +1,8 @@
 -- The image (request L4): a row of blocks of 512 bytes from number 0, a header and then every slot of files, links and
 -- streams. Each block begins with its number and ends in a check. Between stands its record, in the bytes that it has in the
 -- tables (layout), and zeros.
-use Rattle.base.specs.Base.{ℕ, zero, suc, ◌+◌, ◌*◌, ◌-◌, false, cond, List, [], ◌∷◌, ◌++◌, map, eqb, leb, ltb, length, padded, file_slots, link_slots, stream_slots, zero_counts, bare, with_counts, BareStream, File, Stream, Tables}
+use Rattle.std.specs.Prelude.{◌+◌, ◌*◌, ◌-◌, ◌∷◌, ◌++◌}
+use Rattle.base.specs.Base.{ℕ, zero, suc, false, cond, List, [], map, eqb, leb, ltb, length, padded, file_slots, link_slots, stream_slots, zero_counts, bare, with_counts, BareStream, File, Stream, Tables}
 use Rattle.format.specs.Format.{fresh_opens}
 use Rattle.little_endian.specs.LittleEndian.{to_bytes, part}
 use Rattle.layout.specs.Layout.{file_size, link_size, stream_size, files_at, links_at, streams_at, tables_size, encode}

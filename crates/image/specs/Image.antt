@@ -1,7 +1,7 @@
 -- Writing the image and reading it back, any number of blocks at a time (request L4).
-use Rattle.std.specs.Prelude.{◌/◌, ◌%◌}
+use Rattle.std.specs.Prelude.{◌/◌, ◌%◌, ◌+◌, ◌&&◌, ◌∷◌}
 use Rattle.std.proofs.lemmas.List.Edits.{sets}
-use Rattle.base.specs.Base.{ℕ, zero, suc, ◌+◌, Bool, true, false, not, any, ◌&&◌, List, [], ◌∷◌, eqb, leb, length, take, drop, replicate, open_used, Checked, passed, refuse_if, ◌>>◌, ◌>>=◌, refused_reply, Step, done, concluded, FileCorruptError, InvalidParameter}
+use Rattle.base.specs.Base.{ℕ, zero, suc, Bool, true, false, not, any, List, [], eqb, leb, length, take, drop, replicate, open_used, Checked, passed, refuse_if, ◌>>◌, ◌>>=◌, refused_reply, Step, done, concluded, FileCorruptError, InvalidParameter}
 use Rattle.audit.specs.Sound.{sound_bytes}
 use Rattle.layout.specs.Layout.{tables_size, decode}
 use Rattle.image.specs.{Blocks.{block_size, image_blocks, record_of, place_of, image_part}, Alone.{record_in, block_alone}}

@@ -1,5 +1,6 @@
 -- The round trip of the image, and that there is no second spelling (request L4).
-use Rattle.base.specs.Base.{ℕ, ◌+◌, ◌≡◌, true, false, List, [], ◌∷◌, ◌++◌, length, all, any, open_used, passed, done}
+use Rattle.std.specs.Prelude.{◌+◌, ◌≡◌, ◌∷◌, ◌++◌}
+use Rattle.base.specs.Base.{ℕ, true, false, List, [], length, all, any, open_used, passed, done}
 use Rattle.audit.specs.Sound.{sound_bytes}
 use Rattle.image.specs.{Blocks.{image_blocks, image, without_opens}, Image.{Reading, Restoring, blocks_in, whole_blocks, write_image, read_rows, finish_image}}
 use Rattle.layout.specs.Layout.{tables_size, encode, decode}

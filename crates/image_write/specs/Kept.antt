@@ -1,6 +1,7 @@
 -- What of a record's bytes a block has as they stand in the tables: all but counts and the mark of delete on close, which are
 -- last and zero in an image.
-use Rattle.base.specs.Base.{ℕ, List, ◌++◌}
+use Rattle.std.specs.Prelude.{◌++◌}
+use Rattle.base.specs.Base.{ℕ, List}
 use Rattle.image.specs.{Blocks.{block, record_of, place_of, preface}, declared.BlockRecord.{BlockRecord, TheVariants.{Header, FileSlot, LinkSlot, StreamSlot, Past}}}
 use Rattle.layout.specs.Layout.{files_at, link_size, file_mark_in, counts_in}
 use Rattle.little_endian.specs.LittleEndian.{part}

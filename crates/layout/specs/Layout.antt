@@ -1,5 +1,6 @@
 -- The tables in bytes: the volume's mark and next handle, then its files, links and streams, then the opens.
-use Rattle.base.specs.Base.{ℕ, ◌+◌, ◌-◌, ◌≡◌, Bool, true, ◌&&◌, List, eqb, length, file_slots, link_slots, stream_slots, open_slots, Tables, Handle, File, Link, Stream, Open}
+use Rattle.std.specs.Prelude.{◌+◌, ◌-◌, ◌≡◌, ◌&&◌}
+use Rattle.base.specs.Base.{ℕ, Bool, true, List, eqb, length, file_slots, link_slots, stream_slots, open_slots, Tables, Handle, File, Link, Stream, Open}
 use Rattle.codecs.specs.Codec.{Codec, ◌⊗◌, via, row}
 use Rattle.layout.specs.Records.{mark_codec, handle_codec, file_codec, link_codec, counts_codec, stream_codec, open_codec}
 

@@ -1,6 +1,6 @@
 -- The dumps of docs/LAYOUT.md and docs/IMAGE.md: rows of sixteen bytes, those that are not all zero, by their places.
-use Rattle.base.specs.Base.{ℕ, zero, suc, ◌+◌, ◌*◌, ◌≡◌, false, cond, List, [], ◌∷◌, ◌++◌, eqb, length, take, drop, all}
-use Rattle.std.specs.Prelude.{◌/◌}
+use Rattle.base.specs.Base.{ℕ, zero, suc, false, cond, List, [], eqb, length, take, drop, all}
+use Rattle.std.specs.Prelude.{◌/◌, ◌+◌, ◌*◌, ◌≡◌, ◌∷◌, ◌++◌}
 use Rattle.format.specs.Format.{fresh_tables}
 use Rattle.image.specs.Blocks.{block_size, block_of, without_opens}
 use Rattle.layout.specs.Layout.{encode}

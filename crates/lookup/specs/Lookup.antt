@@ -1,6 +1,7 @@
 -- Step 6: from a path to its file. The lowest matching slot wins. A file that is marked, whatever it is and wherever it
 -- stands in the path, ends the search with DELETE_PENDING.
-use Rattle.base.specs.Base.{ℕ, Bool, true, false, ◌&&◌, List, [], ◌∷◌, Option, none, some, not, eqb, first, is_empty, root, is_directory, Namespace, Checked, passed, refuse, ◌>>=◌, ◌>>◌, refuse_if, ObjectPathNotFound, DeletePending, FileNo, LinkNo, Link}
+use Rattle.std.specs.Prelude.{◌&&◌, ◌∷◌}
+use Rattle.base.specs.Base.{ℕ, Bool, true, false, List, [], Option, none, some, not, eqb, first, is_empty, root, is_directory, Namespace, Checked, passed, refuse, ◌>>=◌, ◌>>◌, refuse_if, ObjectPathNotFound, DeletePending, FileNo, LinkNo, Link}
 use Rattle.paths.specs.Paths.{Path, Leaf}
 use Rattle.stored_names.specs.StoredNames.{units}
 use Rattle.tables.specs.Tables.{file_at, link_at}

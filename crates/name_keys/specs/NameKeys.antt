@@ -1,6 +1,6 @@
 -- The key of a name in a place. No rule depends on it: it only tells names apart quickly.
-use Rattle.base.specs.Base.{ℕ, ◌+◌, ◌*◌, cond, List, [], ◌∷◌, eqb, length, get_or, file_name_limit}
-use Rattle.std.specs.Prelude.{◌/◌, ◌%◌}
+use Rattle.base.specs.Base.{ℕ, cond, List, [], eqb, length, get_or, file_name_limit}
+use Rattle.std.specs.Prelude.{◌/◌, ◌%◌, ◌+◌, ◌*◌, ◌∷◌}
 
 -- the weights of a unit's low byte and of its high one, by place
 unfoldable pub low_weights : List ℕ

@@ -1,5 +1,6 @@
 -- What is asked of a name in a used slot: it is well stored, and its units are a valid name.
-use Rattle.base.specs.Base.{ℕ, Bool, ◌&&◌, ◌||◌, List, eqb, leb, length, file_name_limit, stream_name_limit}
+use Rattle.std.specs.Prelude.{◌&&◌, ◌||◌}
+use Rattle.base.specs.Base.{ℕ, Bool, List, eqb, leb, length, file_name_limit, stream_name_limit}
 use Rattle.names.specs.{Names.{valid_unit, valid_file_name, valid_stream_name}, declared.NameKind.NameKind}
 use Rattle.stored_names.specs.StoredNames.{units, well_stored}
 

@@ -1,5 +1,6 @@
 -- Which names are valid (step 4).
-use Rattle.base.specs.Base.{ℕ, Bool, not, ◌&&◌, List, [], ◌∷◌, leb, length, all, is_empty, one_of, same}
+use Rattle.std.specs.Prelude.{◌&&◌, ◌∷◌}
+use Rattle.base.specs.Base.{ℕ, Bool, not, List, [], leb, length, all, is_empty, one_of, same}
 use Rattle.units.specs.Units.{backslash, colon, dot, forbidden}
 use Rattle.names.specs.declared.NameKind.{NameKind, TheVariants.{FileName, StreamName}}
 

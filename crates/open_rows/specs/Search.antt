@@ -1,5 +1,6 @@
 -- What a row of opens is searched for.
-use Rattle.base.specs.Base.{Bool, ◌&&◌, open_used, terms_of, Open}
+use Rattle.std.specs.Prelude.{◌&&◌}
+use Rattle.base.specs.Base.{Bool, open_used, terms_of, Open}
 use Rattle.open_table.specs.Rows.{has_handle}
 use Rattle.sharing.specs.Sharing.{on_stream, conflict}
 use Rattle.open_rows.specs.declared.Sought.{Sought, TheVariants.{WithHandle, Conflicting}}

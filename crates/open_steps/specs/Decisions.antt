@@ -1,5 +1,6 @@
 -- What a decided open stands for (the sharing check and step 12).
-use Rattle.base.specs.Base.{ℕ, cond, List, [], ◌∷◌, is_empty, Namespace, BareStream, Checked, passed, refuse, Data, StreamNo}
+use Rattle.std.specs.Prelude.{◌∷◌}
+use Rattle.base.specs.Base.{ℕ, cond, List, [], is_empty, Namespace, BareStream, Checked, passed, refuse, Data, StreamNo}
 use Rattle.components.specs.Positions.{part_of}
 use Rattle.store.specs.Complete.{Placed, Decision, with_attributes, stream_new, link_new, place_file, attribute_change}
 use Rattle.tables.specs.Tables.{file_at}

@@ -1,5 +1,6 @@
 -- The table of opens: the lowest free row (step 12), and the row of a handle (close).
-use Rattle.base.specs.Base.{ℕ, Bool, ◌&&◌, List, Option, none, some, eqb, first_free, open_used, Handle, Open}
+use Rattle.std.specs.Prelude.{◌&&◌}
+use Rattle.base.specs.Base.{ℕ, Bool, List, Option, none, some, eqb, first_free, open_used, Handle, Open}
 use Rattle.open_table.specs.declared.OpenSlot.{OpenSlot, TheVariants.{At, Full}}
 
 abbrev pub free_row : List Open → Option ℕ

@@ -1,6 +1,7 @@
 -- Step 4: a path taken apart, with every refusal of OBJECT_NAME_INVALID. `split` and `components` are definitions of the
 -- crate components.
-use Rattle.base.specs.Base.{ℕ, Bool, true, false, cond, not, ◌&&◌, List, [], ◌∷◌, Option, none, some, eqb, leb, length, is_empty, file_name_limit, stream_name_limit, path_limit, Checked, passed, refuse, ◌>>=◌, ◌>>◌, refuse_if, ObjectNameInvalid}
+use Rattle.std.specs.Prelude.{◌&&◌, ◌∷◌}
+use Rattle.base.specs.Base.{ℕ, Bool, true, false, cond, not, List, [], Option, none, some, eqb, leb, length, is_empty, file_name_limit, stream_name_limit, path_limit, Checked, passed, refuse, ◌>>=◌, ◌>>◌, refuse_if, ObjectNameInvalid}
 use Rattle.components.specs.Components.{split, components}
 use Rattle.names.specs.Names.{valid_file_name, valid_stream_name}
 use Rattle.units.specs.Units.{backslash, colon, data_type, equal_units}

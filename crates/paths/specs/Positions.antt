@@ -1,5 +1,6 @@
 -- Step 4: what the positions found in a path stand for.
-use Rattle.base.specs.Base.{ℕ, ◌≡◌, Bool, List, [], Option, none, some, Checked, passed, refuse, ◌>>=◌, ObjectNameInvalid}
+use Rattle.std.specs.Prelude.{◌≡◌}
+use Rattle.base.specs.Base.{ℕ, Bool, List, [], Option, none, some, Checked, passed, refuse, ◌>>=◌, ObjectNameInvalid}
 use Rattle.components.specs.Positions.{part_of, parents_of, Within}
 use Rattle.paths.specs.{Paths.{Leaf, no_leaf, Path, checked_leaf}, declared.{LeafParts.LeafParts, ParsedPath.{ParsedPath, TheVariants.{Invalid, Root, Named}}}}
 

@@ -1,5 +1,6 @@
 -- Events: a call, blocks of the image written, a restart from an image. Each as a step of the object store and of the model.
-use Rattle.base.specs.Base.{ℕ, zero, suc, Bool, true, false, not, ◌&&◌, ◌||◌, List, [], ◌∷◌, ◌++◌, take, drop, length, all, any, same, Reply, Checked, refused, passed, ◌>>=◌, ◌>>◌, Tables, Step, done, concluded, namespace, Outcome, Success, Done, Refused}
+use Rattle.std.specs.Prelude.{◌&&◌, ◌||◌, ◌∷◌, ◌++◌}
+use Rattle.base.specs.Base.{ℕ, zero, suc, Bool, true, false, not, List, [], take, drop, length, all, any, same, Reply, Checked, refused, passed, ◌>>=◌, ◌>>◌, Tables, Step, done, concluded, namespace, Outcome, Success, Done, Refused}
 use Rattle.image.specs.{Blocks.{block_size, image_part}, Image.{unread, blocks_in, checked_row, read_rows, checked_image}}
 use Rattle.layout.specs.Layout.{decode}
 use Rattle.store.specs.{Store.when_consistent, Model.Model, Calls.{Call, store_step, model_step, Run}}

@@ -1,5 +1,6 @@
 -- Demand 3 across restarts (request L4): the statement about every list of events from a freshly formatted volume.
-use Rattle.base.specs.Base.{ℕ, ◌≡◌, true, Bool, List, [], Tables, Done}
+use Rattle.std.specs.Prelude.{◌≡◌}
+use Rattle.base.specs.Base.{ℕ, true, Bool, List, [], Tables, Done}
 use Rattle.format.specs.Format.{format}
 use Rattle.store.specs.{Model.{Model, model_format}, Sequences.Agree}
 use Rattle.restarts.specs.Events.{Event, restarts, store_event, model_event, run_events, own_restarts}

@@ -1,5 +1,6 @@
 -- What a line of the script promises on lent bytes: what it prints, and the bytes after it.
-use Rattle.base.specs.Base.{ℕ, ◌≡◌, true, List, Step}
+use Rattle.std.specs.Prelude.{◌≡◌}
+use Rattle.base.specs.Base.{ℕ, true, List, Step}
 use Rattle.call_contracts.specs.Performs.{StandFor}
 use Rattle.layout.specs.{Layout.{decode, stands_for_tables}, Calls.on_bytes}
 use Rattle.script_lines.specs.{Script.answered, Found.Prints, declared.Printed.Printed}

@@ -1,5 +1,6 @@
 -- A whole script on lent bytes: the statement about every list of lines from a format that succeeded.
-use Rattle.base.specs.Base.{ℕ, ◌≡◌, Bool, List, [], ◌∷◌, ◌++◌, take, Answers, Answer, Done}
+use Rattle.std.specs.Prelude.{◌≡◌, ◌∷◌, ◌++◌}
+use Rattle.base.specs.Base.{ℕ, Bool, List, [], take, Answers, Answer, Done}
 use Rattle.format.specs.Bytes.{format_bytes}
 use Rattle.script_lines.specs.{Script.script, declared.Printed.Printed}
 use Rattle.store.specs.{Model.{Model, model_format}, Calls.model_step}

@@ -1,5 +1,6 @@
 -- What the code's values stand for on a line. A place is a number of bytes from the line's start.
-use Rattle.base.specs.Base.{ℕ, ◌≤◌, ◌≡◌, List, Option, none, some, length, take, drop}
+use Rattle.std.specs.Prelude.{◌≤◌, ◌≡◌}
+use Rattle.base.specs.Base.{ℕ, List, Option, none, some, length, take, drop}
 use Rattle.store.specs.Calls.{Call, opens, closes}
 use Rattle.script_lines.specs.{Lines.{Field, line_limit}, declared.{FoundNumber.FoundNumber, FoundField.FoundField, AskedLine.AskedLine, PathUnits.PathUnits, Printed.Printed}}
 use Rattle.script_lines.specs.declared.FoundNumber.TheVariants as N

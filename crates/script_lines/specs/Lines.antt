@@ -1,5 +1,6 @@
 -- What a line of the script asks (document 01, "A program reads lines"). A line is its bytes, without the line end.
-use Rattle.base.specs.Base.{ℕ, ◌+◌, ◌-◌, ◌*◌, Bool, cond, ◌&&◌, List, [], ◌∷◌, Option, none, some, length, get_or, drop, eqb, leb, all, is_empty}
+use Rattle.std.specs.Prelude.{◌+◌, ◌-◌, ◌*◌, ◌&&◌, ◌∷◌}
+use Rattle.base.specs.Base.{ℕ, Bool, cond, List, [], Option, none, some, length, get_or, drop, eqb, leb, all, is_empty}
 use Rattle.store.specs.Calls.{Call, opens, closes}
 
 infixl 10 ◌>>=◌

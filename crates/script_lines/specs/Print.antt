@@ -1,6 +1,6 @@
 -- What is printed of a reply: the status in eight hexadecimal digits, the action's digit or `-`, and the handle.
-use Rattle.base.specs.Base.{ℕ, zero, suc, ◌+◌, ◌≤◌, ◌≡◌, cond, List, [], ◌∷◌, ◌++◌, Option, none, some, length, take, ltb, Seen}
-use Rattle.std.specs.Prelude.{◌/◌, ◌%◌}
+use Rattle.base.specs.Base.{ℕ, zero, suc, cond, List, [], Option, none, some, length, take, ltb, Seen}
+use Rattle.std.specs.Prelude.{◌/◌, ◌%◌, ◌+◌, ◌≤◌, ◌≡◌, ◌∷◌, ◌++◌}
 use Rattle.script_lines.specs.Lines.{space}
 
 abbrev pub line_end : ℕ

@@ -1,5 +1,6 @@
 -- A script over any machine that answers calls: what its lines print, one after the other.
-use Rattle.base.specs.Base.{ℕ, List, [], ◌∷◌, ◌++◌, Option, none, some, Step, seen}
+use Rattle.std.specs.Prelude.{◌∷◌, ◌++◌}
+use Rattle.base.specs.Base.{ℕ, List, [], Option, none, some, Step, seen}
 use Rattle.store.specs.Calls.{Call}
 use Rattle.script_lines.specs.{Lines.parse_line, Print.{printed, unknown_line}}
 

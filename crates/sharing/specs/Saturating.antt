@@ -1,6 +1,6 @@
 -- The share counts with one open more in fields that end at a limit. Counts below it become those of the sharing rule.
-use Rattle.base.specs.Base.{ℕ, ◌+◌, Open, ShareCounts}
-use Rattle.std.specs.Prelude.{min}
+use Rattle.base.specs.Base.{ℕ, Open, ShareCounts}
+use Rattle.std.specs.Prelude.{min, ◌+◌}
 use Rattle.sharing.specs.Sharing.{changed_by}
 
 -- what a field of a ShareCounts ends at

@@ -1,5 +1,6 @@
 -- The sharing rule. What holds of reading, writing and deleting alike is said once, over the kind.
-use Rattle.base.specs.Base.{ℕ, ◌+◌, ◌-◌, Bool, cond, not, ◌&&◌, ◌||◌, List, eqb, ltb, has, any, count, keep, Terms, terms_of, StreamNo, Open, ShareCounts}
+use Rattle.std.specs.Prelude.{◌+◌, ◌-◌, ◌&&◌, ◌||◌}
+use Rattle.base.specs.Base.{ℕ, Bool, cond, not, List, eqb, ltb, has, any, count, keep, Terms, terms_of, StreamNo, Open, ShareCounts}
 
 -- the three kinds of access that are shared
 pub data Kind : Type 0 where

@@ -1,6 +1,7 @@
 -- The step cases (store/specs/StepCases) as lines of the script: of each case that calls alone lead to, on a fresh writable
 -- volume with masks 0x1F01FF, the lines of its calls and what the last one prints.
-use Rattle.base.specs.Base.{ℕ, zero, suc, Bool, true, false, cond, not, ◌&&◌, ◌≡◌, List, [], ◌∷◌, ◌++◌, Option, none, some, eqb, get_or, all, replicate, same}
+use Rattle.std.specs.Prelude.{◌&&◌, ◌≡◌, ◌∷◌, ◌++◌}
+use Rattle.base.specs.Base.{ℕ, zero, suc, Bool, true, false, cond, not, List, [], Option, none, some, eqb, get_or, all, replicate, same}
 use Rattle.script_lines.specs.{Evaluate.computes as script, Lines.{◌>>=◌, is_ascii, space}, Print.{decimal_digits, line_end, printed}, Script.answered}
 use Rattle.store.specs.{Calls.{Call, opens, closes, sets_read_only, model_step}, Evaluate.model_run, Model.{Model, fresh_model}, StepCases.Form.{Case, Start, refuses, accepts, does, leaves, replies, becomes, refuses_format, formats, kept, started, expected, equal, equal_rows}}
 

@@ -1,5 +1,6 @@
 -- Calls as data, and the run of a list of calls over the tables and over the model, each with its replies in order.
-use Rattle.base.specs.Base.{ℕ, Bool, List, [], ◌∷◌, Reply, Tables, Step, Handle, Request}
+use Rattle.std.specs.Prelude.{◌∷◌}
+use Rattle.base.specs.Base.{ℕ, Bool, List, [], Reply, Tables, Step, Handle, Request}
 use Rattle.store.specs.{Store.{store_open, store_close, store_set_read_only}, Model.{Model, model_open, model_close, model_set_read_only}}
 
 pub data Call : Type 0 where

@@ -1,6 +1,7 @@
 -- Worked cases (document 01, "Bench cases"): what the object store and the model answer, and what stands in the tables
 -- then. One table, one statement; proofs/Cases.antt proves it by evaluation.
-use Rattle.base.specs.Base.{ℕ, ◌≡◌, false, List, [], ◌∷◌, map, none, some, replicate, keep, accounts, all_access, Seen, seen, file_used, stream_used, File, Stream}
+use Rattle.std.specs.Prelude.{◌≡◌, ◌∷◌}
+use Rattle.base.specs.Base.{ℕ, false, List, [], map, none, some, replicate, keep, accounts, all_access, Seen, seen, file_used, stream_used, File, Stream}
 use Rattle.store.specs.{Calls.{Call, opens, closes, run, store_step, model_step}, Evaluate.{store_run, model_run}}
 
 abbrev pub refused_with : ℕ → Seen

@@ -1,6 +1,7 @@
 -- What a close does, once its open is struck: the open's file or named stream may be marked, and goes with its last open.
 -- The object store and the model share this text; the opens asked about are those that remain.
-use Rattle.base.specs.Base.{Bool, true, cond, not, ◌&&◌, ◌||◌, List, map, get_or, set, is_empty, zero_file, zero_link, zero_bare, Namespace, BareStream, bare_at, Checked, some_or, InvalidHandle, FileNo, StreamNo, Handle, File, Link, Open}
+use Rattle.std.specs.Prelude.{◌&&◌, ◌||◌}
+use Rattle.base.specs.Base.{Bool, true, cond, not, List, map, get_or, set, is_empty, zero_file, zero_link, zero_bare, Namespace, BareStream, bare_at, Checked, some_or, InvalidHandle, FileNo, StreamNo, Handle, File, Link, Open}
 use Rattle.consistency.specs.Relations.{link_to, has_children, stream_of}
 use Rattle.stored_names.specs.StoredNames.{units}
 use Rattle.tables.specs.Tables.{file_at}

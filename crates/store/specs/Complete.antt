@@ -1,6 +1,7 @@
 -- The sharing check, step 10's share-read rule and step 12: whether a pending open is accepted, and what it changes.
 -- The object store and the model share this text; each answers the questions about its opens in its own way.
-use Rattle.base.specs.Base.{ℕ, suc, Bool, false, cond, not, List, [], ◌∷◌, Option, none, some, bit_or, eqb, is_empty, padded, writes, file_name_limit, stream_name_limit, last_handle, share_read, Terms, Namespace, BareStream, Checked, passed, ◌>>=◌, ◌>>◌, refuse_if, AccessDenied, SharingViolation, TooManyOpenedFiles, InsufficientResources, Reply, Success, CreateAction, Created, FileType, Data, FileNo, LinkNo, StreamNo, Handle, File, Link, Open, Request}
+use Rattle.std.specs.Prelude.{◌∷◌}
+use Rattle.base.specs.Base.{ℕ, suc, Bool, false, cond, not, List, [], Option, none, some, bit_or, eqb, is_empty, padded, writes, file_name_limit, stream_name_limit, last_handle, share_read, Terms, Namespace, BareStream, Checked, passed, ◌>>=◌, ◌>>◌, refuse_if, AccessDenied, SharingViolation, TooManyOpenedFiles, InsufficientResources, Reply, Success, CreateAction, Created, FileType, Data, FileNo, LinkNo, StreamNo, Handle, File, Link, Open, Request}
 use Rattle.free_slots.specs.Free.{free_file, free_link, free_stream}
 use Rattle.tables.specs.Tables.{file_at}
 use Rattle.store.specs.{Request.deletes_on_close, Prepare.{ReadSharing, as_offered, added_if_alone, denied_if_alone, Existing, Creation, new_stream, new_file, Pending, existing, creating, prepare}}

@@ -1,6 +1,7 @@
 -- The model (the paper's book): a plain machine without slots for opens, share counts or a consistency test. Its entries
 -- stand for the opens table, and sharing goes by the pair rule with each entry on the stream.
-use Rattle.base.specs.Base.{ℕ, suc, Bool, not, List, [], ◌∷◌, ltb, length, find, keep, open_slots, Namespace, namespace, passed, ◌>>=◌, ◌>>◌, Step, done, concluded, Handle, Open, Request}
+use Rattle.std.specs.Prelude.{◌∷◌}
+use Rattle.base.specs.Base.{ℕ, suc, Bool, not, List, [], ltb, length, find, keep, open_slots, Namespace, namespace, passed, ◌>>=◌, ◌>>◌, Step, done, concluded, Handle, Open, Request}
 use Rattle.format.specs.Format.{fresh_volume, checked_masks}
 use Rattle.sharing.specs.Sharing.{any_conflict}
 use Rattle.tables.specs.Tables.{any_on_file, any_on_stream}

@@ -1,6 +1,7 @@
 -- Step 9 and the access part of steps 10 and 11: what an open would do, once its target is found and before its sharing is
 -- checked.
-use Rattle.base.specs.Base.{ℕ, Bool, false, cond, not, ◌&&◌, ◌||◌, List, [], ◌∷◌, Option, none, some, bit_and, bit_or, eqb, within, has, without, is_empty, one_of, supersede, open_only, open_if, disallow_exclusive, read_only, hidden, system, directory, archive, temporary, not_content_indexed, write_data, add_file, add_subdirectory, delete, all_access, file_generic_write, maximum_allowed, share_read, mask_of, Terms, Namespace, Checked, passed, ◌>>=◌, ◌>>◌, refuse_if, InvalidParameter, AccessDenied, MediaWriteProtected, CannotDelete, CreateAction, Superseded, Opened, Overwritten, FileType, Data, Directory, FileNo, StreamNo, File, Request}
+use Rattle.std.specs.Prelude.{◌&&◌, ◌||◌, ◌∷◌}
+use Rattle.base.specs.Base.{ℕ, Bool, false, cond, not, List, [], Option, none, some, bit_and, bit_or, eqb, within, has, without, is_empty, one_of, supersede, open_only, open_if, disallow_exclusive, read_only, hidden, system, directory, archive, temporary, not_content_indexed, write_data, add_file, add_subdirectory, delete, all_access, file_generic_write, maximum_allowed, share_read, mask_of, Terms, Namespace, Checked, passed, ◌>>=◌, ◌>>◌, refuse_if, InvalidParameter, AccessDenied, MediaWriteProtected, CannotDelete, CreateAction, Superseded, Opened, Overwritten, FileType, Data, Directory, FileNo, StreamNo, File, Request}
 use Rattle.access.specs.Access.{access_rule, checked_access}
 use Rattle.paths.specs.Paths.{Leaf}
 use Rattle.tables.specs.Tables.{file_at}

@@ -1,5 +1,6 @@
 -- Steps 1, 2, 3 and 5: what is refused by the request's numbers alone.
-use Rattle.base.specs.Base.{Bool, not, ◌&&◌, ◌||◌, [], ◌∷◌, eqb, ltb, within, has, one_of, supersede, create, overwrite, overwrite_if, directory_file, non_directory_file, delete_on_close, append_data, delete, Request}
+use Rattle.std.specs.Prelude.{◌&&◌, ◌||◌, ◌∷◌}
+use Rattle.base.specs.Base.{Bool, not, [], eqb, ltb, within, has, one_of, supersede, create, overwrite, overwrite_if, directory_file, non_directory_file, delete_on_close, append_data, delete, Request}
 
 -- a directory is asked for; a file that is no directory is asked for
 unfoldable pub wants_directory : Request → Bool

@@ -1,5 +1,6 @@
 -- Demand 3: the statement about every sequence of calls from a freshly formatted volume.
-use Rattle.base.specs.Base.{ℕ, zero, suc, ◌<◌, ◌≡◌, Bool, true, false, not, List, [], ◌∷◌, ◌↔◌, eqb, length, any, pairs, Permutation, Reply, seen, status_number, Tables, namespace, passed, FileCorruptError, SharingViolation, Outcome, Success, Done, Refused, StreamNo, Request}
+use Rattle.std.specs.Prelude.{◌<◌, ◌≡◌, ◌∷◌, ◌↔◌}
+use Rattle.base.specs.Base.{ℕ, zero, suc, Bool, true, false, not, List, [], eqb, length, any, pairs, Permutation, Reply, seen, status_number, Tables, namespace, passed, FileCorruptError, SharingViolation, Outcome, Success, Done, Refused, StreamNo, Request}
 use Rattle.consistency.specs.{Consistent.Consistent, Good.opens_agree}
 use Rattle.format.specs.Format.{format}
 use Rattle.sharing.specs.Sharing.{any_conflict, counts_of, share_check}

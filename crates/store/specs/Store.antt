@@ -1,6 +1,7 @@
 -- The object store (the paper's desk): open, close and set_read_only on the tables. A refusal leaves every table as it
 -- was.
-use Rattle.base.specs.Base.{ℕ, suc, Bool, not, List, [], ◌∷◌, Option, none, some, set, any, find, first, writes, zero_stream, zero_open, open_used, BareStream, bare, with_counts, namespace, Checked, passed, ◌>>=◌, ◌>>◌, refuse_if, Tables, Step, done, concluded, FileCorruptError, StreamNo, Handle, ShareCounts, Stream, Open, Volume, Request}
+use Rattle.std.specs.Prelude.{◌∷◌}
+use Rattle.base.specs.Base.{ℕ, suc, Bool, not, List, [], Option, none, some, set, any, find, first, writes, zero_stream, zero_open, open_used, BareStream, bare, with_counts, namespace, Checked, passed, ◌>>=◌, ◌>>◌, refuse_if, Tables, Step, done, concluded, FileCorruptError, StreamNo, Handle, ShareCounts, Stream, Open, Volume, Request}
 use Rattle.consistency.specs.Test.{consistent}
 use Rattle.open_table.specs.Rows.{free_row}
 unfoldable pub use Rattle.open_table.specs.Rows.{has_handle}

@@ -1,5 +1,6 @@
 -- Steps 1 to 8, and the stream of steps 10 and 11: what an open leads to, found without looking at the opens.
-use Rattle.base.specs.Base.{ℕ, Bool, true, false, cond, not, ◌&&◌, ◌||◌, List, [], ◌∷◌, Option, none, some, eqb, one_of, open_only, create, open_if, overwrite, is_directory, Namespace, bare_at, Checked, passed, ◌>>=◌, ◌>>◌, refuse_if, some_or, FileCorruptError, InvalidParameter, AccessDenied, MediaWriteProtected, ObjectNameNotFound, ObjectNameCollision, FileIsADirectory, NotADirectory, DeletePending, FileNo, StreamNo, Request}
+use Rattle.std.specs.Prelude.{◌&&◌, ◌||◌, ◌∷◌}
+use Rattle.base.specs.Base.{ℕ, Bool, true, false, cond, not, List, [], Option, none, some, eqb, one_of, open_only, create, open_if, overwrite, is_directory, Namespace, bare_at, Checked, passed, ◌>>=◌, ◌>>◌, refuse_if, some_or, FileCorruptError, InvalidParameter, AccessDenied, MediaWriteProtected, ObjectNameNotFound, ObjectNameCollision, FileIsADirectory, NotADirectory, DeletePending, FileNo, StreamNo, Request}
 use Rattle.lookup.specs.Lookup.{Resolved, Place, found, missing, locate}
 use Rattle.paths.specs.Paths.{Leaf, parse_path}
 use Rattle.stream_lookup.specs.StreamLookup.{find_stream}

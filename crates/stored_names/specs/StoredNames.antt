@@ -1,5 +1,6 @@
 -- How a name stands in a record.
-use Rattle.base.specs.Base.{ℕ, zero, suc, Bool, List, [], ◌∷◌, padded, same}
+use Rattle.std.specs.Prelude.{◌∷◌}
+use Rattle.base.specs.Base.{ℕ, zero, suc, Bool, List, [], padded, same}
 
 -- the units of a stored name: those before the first zero
 unfoldable pub units : List ℕ → List ℕ

@@ -1,5 +1,6 @@
 -- From a file and a name to a stream of the file (steps 10 and 11), matched as in step 6. The lowest matching slot wins.
-use Rattle.base.specs.Base.{ℕ, Bool, ◌&&◌, List, Option, none, some, eqb, first, Namespace, BareStream, bare_used, FileNo, StreamNo}
+use Rattle.std.specs.Prelude.{◌&&◌}
+use Rattle.base.specs.Base.{ℕ, Bool, List, Option, none, some, eqb, first, Namespace, BareStream, bare_used, FileNo, StreamNo}
 use Rattle.stored_names.specs.StoredNames.{units}
 use Rattle.units.specs.Units.{equal_units}
 use Rattle.stream_lookup.specs.declared.FoundStream.{FoundStream, TheVariants.{At, Missing}}

@@ -1,5 +1,6 @@
 -- UTF-16 units: the signs with a meaning, and comparison exactly or with a to z folded to A to Z (step 6).
-use Rattle.base.specs.Base.{ℕ, ◌-◌, Bool, cond, ◌&&◌, List, [], ◌∷◌, map, leb, same}
+use Rattle.std.specs.Prelude.{◌-◌, ◌&&◌, ◌∷◌}
+use Rattle.base.specs.Base.{ℕ, Bool, cond, List, [], map, leb, same}
 
 abbrev pub backslash : ℕ
 backslash = 0x5C

@@ -1,5 +1,6 @@
 -- Close, set_read_only, and format without tables.
-use Rattle.base.specs.Base.{ℕ, true, false, List, [], ◌∷◌, ◌++◌, replicate, BareStream, Open}
+use Rattle.std.specs.Prelude.{◌∷◌, ◌++◌}
+use Rattle.base.specs.Base.{ℕ, true, false, List, [], replicate, BareStream, Open}
 use Rattle.store.specs.{Calls.{Call, sets_read_only}, StepCases.{Form.{Case, Start, Made, refuses, accepts, does, refuses_format, formats, each, ask, close, after, makes, marks, made, stream, entry}, Statuses.{INVALID_PARAMETER, INVALID_HANDLE, FILE_OPENED}}}
 
 abbrev pub call_cases : List Case

@@ -1,5 +1,6 @@
 -- Delete on close asked for: option 0x1000 in step 1, and CANNOT_DELETE in step 9 and after the access rule.
-use Rattle.base.specs.Base.{ℕ, List, [], ◌∷◌, ◌++◌, replicate, Open}
+use Rattle.std.specs.Prelude.{◌∷◌, ◌++◌}
+use Rattle.base.specs.Base.{ℕ, List, [], replicate, Open}
 use Rattle.store.specs.{Calls.Call, StepCases.{Form.{Case, Start, refuses, accepts, each, ask, by, attributed, from, masked, after, fresh, makes, makes_directory, deletes, makes_deleting, makes_directory_deleting, marks, made, stream, of_directory, entry, deleting}, Statuses.{INVALID_PARAMETER, ACCESS_DENIED, OBJECT_NAME_NOT_FOUND, OBJECT_NAME_COLLISION, MEDIA_WRITE_PROTECTED, SHARING_VIOLATION, CANNOT_DELETE, FILE_SUPERSEDED, FILE_OPENED, FILE_CREATED, FILE_OVERWRITTEN}, Streams.file_as}}
 
 -- step 1, and how the open is stored

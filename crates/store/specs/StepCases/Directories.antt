@@ -1,5 +1,6 @@
 -- Step 10: a found directory.
-use Rattle.base.specs.Base.{List, [], ◌∷◌, ◌++◌, replicate}
+use Rattle.std.specs.Prelude.{◌∷◌, ◌++◌}
+use Rattle.base.specs.Base.{List, [], replicate}
 use Rattle.store.specs.{StepCases.{Form.{Case, refuses, accepts, leaves, each, ask, by, attributed, close, from, masked, after, fresh, but, makes, makes_directory, made, stream, of_directory, entry, accepted_row, file_of}, Statuses.{ACCESS_DENIED, OBJECT_NAME_COLLISION, SHARING_VIOLATION, FILE_OPENED, FILE_OVERWRITTEN}}}
 
 abbrev pub directory_cases : List Case

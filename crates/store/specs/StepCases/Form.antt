@@ -1,7 +1,8 @@
 -- The form of the step cases: one call on the model after a few others, with its reply and everything that the model keeps
 -- afterwards. The model is asked alone: by the theorem about every sequence the object store answers alike. The numbers
 -- are those of document 01, written out, and none of the definitions' constants.
-use Rattle.base.specs.Base.{ℕ, zero, suc, ◌-◌, ◌≡◌, Bool, true, false, cond, ◌&&◌, List, [], ◌∷◌, ◌++◌, map, none, some, bit_and, eqb, is_empty, length, replicate, set, zero_file, file_used, link_used, BareStream, zero_bare, Namespace, bare_used, FileType, Unused, Data, Directory, File, Link, Open, Request, Reply, seen, Step, FileNo}
+use Rattle.std.specs.Prelude.{◌-◌, ◌≡◌, ◌&&◌, ◌∷◌, ◌++◌}
+use Rattle.base.specs.Base.{ℕ, zero, suc, Bool, true, false, cond, List, [], map, none, some, bit_and, eqb, is_empty, length, replicate, set, zero_file, file_used, link_used, BareStream, zero_bare, Namespace, bare_used, FileType, Unused, Data, Directory, File, Link, Open, Request, Reply, seen, Step, FileNo}
 use Prim.Native.{Char.code, String.{String, len, char_at}}
 use Rattle.tables.specs.Tables.{file_at}
 use Rattle.store.specs.{Model.{Model, model_format}, Calls.{Call, opens, closes, sets_read_only, model_step}, Evaluate.{computes, model_run}, Cases.a}

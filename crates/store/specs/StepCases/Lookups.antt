@@ -1,5 +1,6 @@
 -- Steps 5 to 8: the read-only volume, path lookup, a missing last name, the type asked for.
-use Rattle.base.specs.Base.{ℕ, List, [], ◌∷◌, ◌++◌, replicate, BareStream, Open}
+use Rattle.std.specs.Prelude.{◌∷◌, ◌++◌}
+use Rattle.base.specs.Base.{ℕ, List, [], replicate, BareStream, Open}
 use Rattle.store.specs.StepCases.{Form.{Case, Start, Made, refuses, accepts, each, ask, asks, by, attributed, folding, from, after, fresh, makes, makes_directory, marks, made, stream, of_directory, entry}, Statuses.{MEDIA_WRITE_PROTECTED, OBJECT_PATH_NOT_FOUND, OBJECT_NAME_NOT_FOUND, OBJECT_NAME_COLLISION, FILE_IS_A_DIRECTORY, NOT_A_DIRECTORY, FILE_OPENED, FILE_CREATED}}
 
 -- step 5: dispositions 0, 2, 4 and 5, on a file, on the root, on a missing name, and before step 6

@@ -1,5 +1,6 @@
 -- Step 4: paths and names.
-use Rattle.base.specs.Base.{ℕ, ◌≡◌, Bool, true, false, List, [], ◌∷◌, ◌++◌, replicate, Data}
+use Rattle.std.specs.Prelude.{◌≡◌, ◌∷◌, ◌++◌}
+use Rattle.base.specs.Base.{ℕ, Bool, true, false, List, [], replicate, Data}
 use Rattle.names.specs.Names.{valid_file_name, valid_stream_name}
 use Rattle.stored_names.specs.StoredNames.{well_stored}
 use Rattle.store.specs.StepCases.{Form.{stored_units, Case, refuses, accepts, each, text, ask, asks, folding, after, fresh, makes, makes_directory, marks, made, stream, stream_as, of_directory, entry}, Statuses.{OBJECT_NAME_INVALID, OBJECT_PATH_NOT_FOUND, OBJECT_NAME_NOT_FOUND, OBJECT_NAME_COLLISION, FILE_OPENED, FILE_CREATED}}

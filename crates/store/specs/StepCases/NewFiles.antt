@@ -1,5 +1,6 @@
 -- Step 9: a new file.
-use Rattle.base.specs.Base.{ℕ, List, [], ◌∷◌, replicate}
+use Rattle.std.specs.Prelude.{◌∷◌}
+use Rattle.base.specs.Base.{ℕ, List, [], replicate}
 use Rattle.store.specs.{StepCases.{Form.{Case, Start, refuses, accepts, leaves, ask, by, attributed, from, masked, after, fresh, but, makes, makes_directory, marks, made, stream, of_directory, entry, accepted_row, file_of}, Statuses.{INVALID_PARAMETER, ACCESS_DENIED, MEDIA_WRITE_PROTECTED, FILE_CREATED}}}
 
 -- a new file, a new directory: from a start without files, asked with attributes, access and share; its attributes and

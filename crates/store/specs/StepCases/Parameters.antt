@@ -1,5 +1,6 @@
 -- Steps 1, 2 and 3: the request's numbers.
-use Rattle.base.specs.Base.{List, [], ◌∷◌, ◌++◌}
+use Rattle.std.specs.Prelude.{◌∷◌, ◌++◌}
+use Rattle.base.specs.Base.{List, []}
 use Rattle.store.specs.StepCases.{Form.{Case, refuses, accepts, each, ask, by, attributed, from, fresh, made, stream, of_directory, entry}, Statuses.{INVALID_PARAMETER, ACCESS_DENIED, OBJECT_NAME_INVALID, FILE_IS_A_DIRECTORY, FILE_OPENED, FILE_CREATED}}
 
 -- step 1: each bound at it and past it, each bit outside the masks

@@ -1,5 +1,6 @@
 -- DELETE_PENDING: what is marked is not opened, and not walked through.
-use Rattle.base.specs.Base.{ℕ, List, [], ◌∷◌, ◌++◌, replicate}
+use Rattle.std.specs.Prelude.{◌∷◌, ◌++◌}
+use Rattle.base.specs.Base.{ℕ, List, [], replicate}
 use Prim.Native.String.{String}
 use Rattle.store.specs.{Calls.Call, StepCases.{Form.{Case, Start, refuses, accepts, each, ask, by, attributed, folding, close, from, after, makes, makes_directory, deletes, marks, made, pending, stream, pending_stream, of_directory, entry}, Statuses.{INVALID_PARAMETER, ACCESS_DENIED, OBJECT_NAME_INVALID, MEDIA_WRITE_PROTECTED, OBJECT_PATH_NOT_FOUND, OBJECT_NAME_NOT_FOUND, DELETE_PENDING, FILE_OPENED, FILE_CREATED}}}
 

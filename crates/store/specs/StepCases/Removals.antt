@@ -1,5 +1,6 @@
 -- What a close marks, and what it removes.
-use Rattle.base.specs.Base.{ℕ, true, false, List, [], ◌∷◌, ◌++◌}
+use Rattle.std.specs.Prelude.{◌∷◌, ◌++◌}
+use Rattle.base.specs.Base.{ℕ, true, false, List, []}
 use Prim.Native.String.{String}
 use Rattle.store.specs.{Calls.Call, StepCases.{Form.{Case, Made, refuses, accepts, does, ask, attributed, close, after, makes, makes_directory, deletes, makes_deleting, makes_directory_deleting, marks, made, pending, gone, stream, pending_stream, gone_stream, of_directory, entry, deleting}, Statuses.{OBJECT_PATH_NOT_FOUND, OBJECT_NAME_NOT_FOUND, INVALID_HANDLE, DELETE_PENDING, FILE_OPENED, FILE_CREATED}}}
 

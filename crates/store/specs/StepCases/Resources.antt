@@ -1,5 +1,6 @@
 -- Step 12: tables, opens and handles that run out. What is kept is given, since it lies far from any short list of calls.
-use Rattle.base.specs.Base.{ℕ, ◌-◌, Bool, true, false, List, [], ◌∷◌, ◌++◌, length, replicate, zero_file, zero_link, BareStream, zero_bare, Namespace, Data, Directory, File, Link, Open}
+use Rattle.std.specs.Prelude.{◌-◌, ◌∷◌, ◌++◌}
+use Rattle.base.specs.Base.{ℕ, Bool, true, false, List, [], length, replicate, zero_file, zero_link, BareStream, zero_bare, Namespace, Data, Directory, File, Link, Open}
 use Prim.Native.String.{String}
 use Rattle.store.specs.StepCases.{Form.{Case, Start, refuses, replies, becomes, model_with, accepted_row, holding, ask, text, stored_units, stream, stream_as, of_directory, entry}, Statuses.{ACCESS_DENIED, MEDIA_WRITE_PROTECTED, SHARING_VIOLATION, DISK_FULL, TOO_MANY_OPENED_FILES, INSUFFICIENT_RESOURCES, FILE_OPENED, FILE_CREATED, FILE_OVERWRITTEN}}
 

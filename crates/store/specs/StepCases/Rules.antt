@@ -1,5 +1,6 @@
 -- The access rule and the sharing rule.
-use Rattle.base.specs.Base.{ℕ, List, [], ◌∷◌, ◌++◌, replicate}
+use Rattle.std.specs.Prelude.{◌∷◌, ◌++◌}
+use Rattle.base.specs.Base.{ℕ, List, [], replicate}
 use Rattle.store.specs.{StepCases.{Form.{Case, refuses, accepts, leaves, each, ask, by, attributed, close, from, masked, after, but, makes, makes_directory, made, stream, of_directory, entry, accepted_row, file_of}, Statuses.{ACCESS_DENIED, SHARING_VIOLATION, FILE_OPENED}}}
 
 -- an open of the root by the mask, with its granted access

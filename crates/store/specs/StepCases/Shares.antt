@@ -1,5 +1,6 @@
 -- Share counts, and the share check from them beside the pair rule.
-use Rattle.base.specs.Base.{ℕ, ◌≡◌, cond, List, [], ◌∷◌, zero_counts, Open, ShareCounts, StreamNo, Terms}
+use Rattle.std.specs.Prelude.{◌≡◌, ◌∷◌}
+use Rattle.base.specs.Base.{ℕ, cond, List, [], zero_counts, Open, ShareCounts, StreamNo, Terms}
 use Rattle.sharing.specs.Sharing.{any_conflict, counts_of, share_check, with_open, without_open}
 use Rattle.store.specs.{Evaluate.computes, StepCases.Form.{entry, failing}}
 

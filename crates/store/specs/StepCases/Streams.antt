@@ -1,5 +1,6 @@
 -- Step 11: a found data file.
-use Rattle.base.specs.Base.{ℕ, List, [], ◌∷◌, ◌++◌, replicate}
+use Rattle.std.specs.Prelude.{◌∷◌, ◌++◌}
+use Rattle.base.specs.Base.{ℕ, List, [], replicate}
 use Rattle.store.specs.{StepCases.{Form.{Case, Start, refuses, accepts, leaves, each, ask, by, attributed, folding, from, after, but, makes, marks, made, stream, entry, accepted_row, file_of}, Statuses.{ACCESS_DENIED, MEDIA_WRITE_PROTECTED, OBJECT_NAME_NOT_FOUND, OBJECT_NAME_COLLISION, SHARING_VIOLATION, FILE_SUPERSEDED, FILE_OPENED, FILE_CREATED, FILE_OVERWRITTEN}}, Calls.Call}
 
 -- `a` with the stream `s`, asked for with attributes; account 0 has every access, account 1 the mask, the others none

@@ -1,5 +1,6 @@
 -- The object store on its tables: consistency first, format, and calls in a row, with every table afterwards.
-use Rattle.base.specs.Base.{ℕ, ◌-◌, ◌≡◌, Bool, true, false, cond, List, [], ◌∷◌, ◌++◌, map, replicate, file_used, link_used, stream_used, open_used, zero_counts, BareStream, bare_used, bare, Unused, Data, Directory, File, Link, Stream, Open, Tables, Step}
+use Rattle.std.specs.Prelude.{◌-◌, ◌≡◌, ◌∷◌, ◌++◌}
+use Rattle.base.specs.Base.{ℕ, Bool, true, false, cond, List, [], map, replicate, file_used, link_used, stream_used, open_used, zero_counts, BareStream, bare_used, bare, Unused, Data, Directory, File, Link, Stream, Open, Tables, Step}
 use Rattle.format.specs.Format.{format}
 use Rattle.store.specs.{Store.store_view, Calls.{Call, sets_read_only, store_step}, Evaluate.{computes, store_run}, Cases.seven_counts, StepCases.{Form.{text, ask, asks, attributed, folding, close, rows, file_row, link_row, stream_row, entry_row, reply_row, refused_row, accepted_row, done_row, observed, failing, Made, made, pending, files_made, links_made, stream, stream_as, pending_stream, of_directory, entry, deleting, makes_directory, deletes, makes_directory_deleting}, Statuses.{FILE_CORRUPT_ERROR, INVALID_PARAMETER, OBJECT_NAME_INVALID, MEDIA_WRITE_PROTECTED, SHARING_VIOLATION, INVALID_HANDLE, CANNOT_DELETE, DELETE_PENDING, FILE_SUPERSEDED, FILE_OPENED, FILE_CREATED}}}
 
