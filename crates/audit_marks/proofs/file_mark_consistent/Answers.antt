@@ -1,5 +1,5 @@
 -- Each test is one part of the definition.
-use Rattle.base.proofs.Laws.{sym, eq-eqb, ne_eqb}
+use Rattle.base.{specs.Base.{◌≡◌, false}, proofs.Laws.{sym, rules, eq-eqb, ne_eqb}}
 use Rattle.consistency.specs.Test.{file_mark_test}
 use Rattle.audit_marks.proofs.file_mark_consistent.Goals as goal
 
@@ -29,12 +29,13 @@ returns-then-has_children c =
 pub returns : goal.returns
 unfolding file_mark_test
 returns c =
+    let none : c.has_children.result ≡ false = search rules in
     rw (
       file_mark_test,
       ← c.read_file_mark.ensures,
       c.if-not-read_file_mark.false,
       ne_eqb _ _ c.if-n-eq0.false,
       ← c.has_children.ensures,
-      c.if-has_children.false,
+      none,
     )
     c.file_has_open.ensures
