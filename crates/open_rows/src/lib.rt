@@ -112,7 +112,9 @@ fn stored_in(rows: [Open; OPEN_SLOTS], i: usize, o: Open) -> Open
     open_at(&changed, i, o)
 }
 
-// The row of the open that has the handle. No open has handle 0.
+// The row of the open that has the handle. No open has handle 0. It is not inlined, so that its row of opens is on the stack
+// only while it runs.
+#[inline(never)]
 pub fn find_open(b: &[u8], h: Handle) -> OpenSlot
     requires { length b.now ≡ tables_size }
     ensures { row_slot result ≡ first (has_handle h) (decode b.now).opens.rows }
@@ -132,7 +134,9 @@ pub fn conflict_on(b: &[u8], stream: StreamNo, granted: u32, share: u32) -> bool
     }
 }
 
-// The open that a row has once it is stored there, of the table read into a row: what goes back to the bytes.
+// The open that a row has once it is stored there, of the table read into a row: what goes back to the bytes. It is not
+// inlined, for the same reason.
+#[inline(never)]
 pub fn change_row(b: &[u8], row: usize, o: Open) -> Open
     requires { length b.now ≡ tables_size }
     ensures { result ≡ o }
