@@ -1,4 +1,4 @@
-use Rattle.base.{specs.Base.{◌+◌, ◌-◌, ◌<◌, ◌≤◌, ◌≡◌, true, length}, proofs.Laws.{refl, sym, ◌∙◌, arith, length-take, length-drop}}
+use Rattle.base.{specs.Base.{◌+◌, ◌-◌, ◌<◌, ◌≤◌, ◌≡◌, true, length}, proofs.Laws.{refl, sym, ◌∙◌, arith, rules, length-take, length-drop}}
 use Rattle.audit.specs.Sound.{sound_bytes}
 use Rattle.image.specs.Blocks.{block_size}
 use Rattle.layout.{proofs.Tables.stands_length}
@@ -21,7 +21,8 @@ sound c = sym c.audit-sound.ensures ∙ c.if-not-sound.false
 pub returns-then-not-fits : goal.returns-then-not-fits
 returns-then-not-fits c =
     let a = c.args in
-    rw (no_room a.tables.now a.first a.row.now (sym c.audit-sound.ensures ∙ c.if-not-sound.false)
+    let sound_found : c.audit-sound.result ≡ true = search rules in
+    rw (no_room a.tables.now a.first a.row.now (sym c.audit-sound.ensures ∙ sound_found)
     (sym c.row_fits-fits.ensures ∙ c.if-not-fits.true))
     (record { reply = refl; state = refl })
 
