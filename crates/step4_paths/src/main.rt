@@ -13,6 +13,9 @@ use paths::ParsedPath;
 use std::io;
 use std::io::{Input, Read};
 
+// How many bytes of the input are answered.
+const INPUT_LIMIT: usize = 0x1_0000;
+
 const LINE_LIMIT: usize = 1024;
 
 const LINE_END: u8 = 0x0A;
@@ -170,9 +173,18 @@ fn answer_lines(rt: &impl Print, input: &[u8], units: &mut [u16]) -> io::Result<
     Ok(())
 }
 
+// As much of the input as is answered: what lies past it is not.
+fn held(input: &[u8]) -> &[u8] {
+    if INPUT_LIMIT < input.len() {
+        &input[..INPUT_LIMIT]
+    } else {
+        input
+    }
+}
+
 fn main(rt: HostRuntime) -> io::Result<()> {
     let mut input = Vec::new(rt.alloc());
     rt.reader().read_to_end(&mut input)?;
     let mut units = [0u16; LINE_LIMIT];
-    answer_lines(&rt, &input, &mut units)
+    answer_lines(&rt, held(&input), &mut units)
 }
