@@ -1,7 +1,6 @@
 -- The access rule.
 use Rattle.std.specs.Prelude.{◌&&◌, ◌||◌}
-use Rattle.base.specs.Base.{ℕ, cond, not, eqb, within, has, without, read_only, maximum_allowed, is_data, mask_of, Checked, passed, refuse, AccessDenied, File}
-use Rattle.access.specs.declared.Access.{Access, TheVariants.{Granted, Denied}}
+use Rattle.base.specs.Base.{ℕ, cond, not, eqb, within, has, without, read_only, maximum_allowed, is_data, mask_of, Option, none, some, Checked, some_or, AccessDenied, File}
 
 -- effective: the account's mask on the file, less 0x6 for a data file with attribute 0x1
 unfoldable pub effective : File → ℕ → ℕ
@@ -12,16 +11,15 @@ effective f account =
 unfoldable pub need : ℕ → ℕ
 need access = without access maximum_allowed
 
--- the rule over an effective mask
-unfoldable pub access_from : ℕ → ℕ → Access
+-- the rule over an effective mask: what is granted, if anything
+unfoldable pub access_from : ℕ → ℕ → Option ℕ
 access_from mask access =
-    cond (not (within (need access) mask) || eqb mask 0) Denied
-    (Granted (cond (has access maximum_allowed) mask (need access)))
+    cond (not (within (need access) mask) || eqb mask 0) none
+    (some (cond (has access maximum_allowed) mask (need access)))
 
-unfoldable pub access_rule : File → ℕ → ℕ → Access
+unfoldable pub access_rule : File → ℕ → ℕ → Option ℕ
 access_rule f account access = access_from (effective f account) access
 
 -- the rule as a step of an open
-unfoldable pub checked_access : Access → Checked ℕ
-checked_access (Granted g) = passed g
-checked_access Denied = refuse AccessDenied
+unfoldable pub checked_access : Option ℕ → Checked ℕ
+checked_access granted = some_or AccessDenied granted

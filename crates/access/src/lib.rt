@@ -2,47 +2,37 @@
 #![tactic(auto)]
 
 ghost use Rattle.std.specs.Prelude.{◌≡◌};
-ghost use Rattle.records.specs.Slots.{is_data, mask_of};
+ghost use Rattle.records.specs.{Checked.as_option, Slots.{is_data, mask_of}};
 ghost use Rattle.access.specs.Access.{effective, need, access_from, access_rule};
 
 use records::constants::{MAXIMUM_ALLOWED, READ_ONLY};
-use records::sizes::ACCOUNTS;
 use records::{File, FileType};
 
 // What a read-only data file withholds: to write and to append data.
 const WRITES: u32 = 0x6;
 
-// What the access rule answers: the access granted, or a refusal.
-#[derive(Clone, Copy)]
-pub enum Access {
-    Granted(u32),
-    Denied,
-}
-
+#[tactic(auto, unfolding(records::specs::Slots::is_data))]
 fn is_data(t: FileType) -> bool
     ensures { result ≡ is_data t }
 {
-    match t {
-        FileType::Data => true,
-        FileType::Unused | FileType::Directory => false,
-    }
+    matches!(t, FileType::Data)
 }
 
 // The account's access mask on a file; an account past the last has none.
+#[tactic(auto, unfolding(records::specs::Slots::mask_of))]
 pub fn mask_of(f: File, account: u32) -> u32
     ensures { result ≡ mask_of f account }
 {
-    let i = account as usize;
-    if i < ACCOUNTS { f.masks[i] } else { 0 }
+    f.masks.get(account as usize).copied().unwrap_or(0)
 }
 
 // What the account may do with the file at all: its mask there, less the writes on a read-only data file.
+#[tactic(auto, unfolding(crate::specs::Access::effective))]
 fn effective(f: File, account: u32) -> u32
     ensures { result ≡ effective f account }
 {
     let mask = mask_of(f, account);
-    let t = f.file_type;
-    if is_data(t) && bits::has(f.attributes, READ_ONLY) {
+    if is_data(f.file_type) && bits::has(f.attributes, READ_ONLY) {
         bits::without(mask, WRITES)
     } else {
         mask
@@ -50,30 +40,32 @@ fn effective(f: File, account: u32) -> u32
 }
 
 // What the access asked comes to: all of it but the maximum-allowed bit.
+#[tactic(auto, unfolding(crate::specs::Access::need))]
 fn need(access: u32) -> u32
     ensures { result ≡ need access }
 {
     bits::without(access, MAXIMUM_ALLOWED)
 }
 
-// The rule over an effective mask.
-fn access_from(mask: u32, access: u32) -> Access
-    ensures { result ≡ access_from mask access }
+// The rule over an effective mask: the access granted, or none where it is denied.
+#[tactic(auto, unfolding(records::specs::Checked::as_option, crate::specs::Access::access_from))]
+fn access_from(mask: u32, access: u32) -> Option<u32>
+    ensures { as_option result ≡ access_from mask access }
 {
     let n = need(access);
     if !bits::within(n, mask) || mask == 0 {
-        return Access::Denied;
-    }
-    if bits::has(access, MAXIMUM_ALLOWED) {
-        Access::Granted(mask)
+        None
+    } else if bits::has(access, MAXIMUM_ALLOWED) {
+        Some(mask)
     } else {
-        Access::Granted(n)
+        Some(n)
     }
 }
 
-pub fn access_rule(f: File, account: u32, access: u32) -> Access
-    ensures { result ≡ access_rule f account access }
+// The access granted on the file, or none where the rule denies it.
+#[tactic(auto, unfolding(crate::specs::Access::access_rule))]
+pub fn access_rule(f: File, account: u32, access: u32) -> Option<u32>
+    ensures { as_option result ≡ access_rule f account access }
 {
-    let mask = effective(f, account);
-    access_from(mask, access)
+    access_from(effective(f, account), access)
 }

@@ -1,62 +1,56 @@
-// What an open would do, once its target is found and before its sharing is checked (step 9, and the access part of steps 10
-// and 11).
+// What an open would do, once its target is found and before its sharing is checked (step 9, and the access part of
+// steps 10 and 11).
 #![tactic(auto)]
 
-ghost use Rattle.std.specs.Prelude.{ℕ, ◌≡◌, cond, List, [], ◌∷◌, length};
+ghost use Rattle.std.specs.Prelude.{ℕ, ◌≡◌, cond, List, [], ◌∷◌};
 ghost use Rattle.lists.specs.Lists.{one_of};
 ghost use Rattle.records.specs.Constants.{open_only, open_if, add_subdirectory, add_file};
-ghost use Rattle.records.specs.Namespace.{namespace};
-ghost use Rattle.layout.specs.Layout.{tables_size, decode};
-ghost use Rattle.tables.specs.Tables.{file_at};
+ghost use Rattle.records.specs.{Checked.{as_checked, as_option}, Namespace.namespace};
+ghost use Rattle.layout.specs.Layout.{decode};
 ghost use Rattle.paths.specs.Positions.{as_leaf};
 ghost use Rattle.store.specs.Request.{wants_directory};
-ghost use Rattle.store.specs.Prepare.{as_offered, grant, granted_new, new_type, attributes_new, admit_file, read_sharing_of, admit_existing, admit_open, hidden_or_system, gained, replacing, replacement, admit_replace, admit_stream};
+ghost use Rattle.store.specs.Prepare.{as_offered, grant, granted_new, new_type, attributes_new, admit_file, read_sharing_of, admit_existing, admit_open, hidden_or_system, gained, replacing, replacement, admit_replace, admit_stream, admit};
+ghost use Rattle.admit.specs.Admitted.{admitted};
 ghost use Rattle.open_steps.specs.Targets.{as_target};
-ghost use Rattle.open_steps.specs.Pendings.{as_read_sharing, as_attributes, as_existing, as_pending};
-ghost use Rattle.admit.specs.Admitted.{as_terms, admitted};
+ghost use Rattle.open_steps.specs.Pendings.{as_read_sharing, as_existing, as_pending};
 
-use access::{Access, access_rule, mask_of};
+use access::{access_rule, mask_of};
 use components::part_of;
-use open_steps::{
-    ExistingOpen, FileToAdd, FoundTarget, NewAttributes, PendingOpen, SharingRule, StreamToAdd,
-};
+use layout::TableBytes;
+use open_steps::{ExistingOpen, FileToAdd, FoundTarget, PendingOpen, SharingRule, StreamToAdd};
 use paths::LeafParts;
 use records::constants::{
     ADD_FILE, ADD_SUBDIRECTORY, ALL_ACCESS, ARCHIVE, DELETE, DIRECTORY, DISALLOW_EXCLUSIVE,
     FILE_GENERIC_WRITE, HIDDEN, MAXIMUM_ALLOWED, NOT_CONTENT_INDEXED, READ_ONLY, SHARE_READ,
     SUPERSEDE, SYSTEM, TEMPORARY, WRITE_DATA,
 };
-use records::{CreateAction, File, FileNo, FileType, Request, Status, StreamNo};
+use records::{CreateAction, File, FileNo, FileType, Request, Status, StreamNo, Terms};
 use records_files::read_file;
 use records_volume::read_mark;
 use request_checks::{deletes_on_close, only_opens, wants_directory};
 
-// What an open is granted on a file, or why it is refused.
-#[derive(Clone, Copy)]
-pub enum CheckedAccess {
-    Refused(Status),
-    Granted(u32),
-}
+// The tables and the request stay two parameters: a struct of both would be made and taken apart here alone, since the
+// crates above and below have them apart.
 
-// The access rule on a file, for the request's account; then, for an open that deletes on close, whether the file may go:
-// not the root, and not one that is read-only.
-fn grant(b: &[u8], r: Request, file: FileNo, access: u32) -> CheckedAccess
-    requires { length b.now ≡ tables_size }
-    ensures { as_terms r.share result ≡ grant (namespace (decode b.now).volume) r file access }
+// The access rule on a file, for the request's account; then, for an open that deletes on close, whether the file may
+// go: not the root, and not one that is read-only. The terms are what is granted, and the sharing mode that was asked.
+fn grant(b: &TableBytes, r: Request, file: FileNo, access: u32) -> Result<Terms, Status>
+    ensures { as_checked (λ t. t) result ≡ grant (namespace (decode b.now).volume) r file access }
 {
     let f = read_file(b, file);
-    let may_go = !((file.0 == 0) | bits::has(f.attributes, READ_ONLY));
-    let access = access_rule(f, r.account, access);
-    let Access::Granted(granted) = access else {
-        return CheckedAccess::Refused(Status::AccessDenied);
-    };
-    if deletes_on_close(r) & !may_go {
-        return CheckedAccess::Refused(Status::CannotDelete);
+    let stays = (file == FileNo(0)) | bits::has(f.attributes, READ_ONLY);
+    let granted = access_rule(f, r.account, access).ok_or(Status::AccessDenied)?;
+    if deletes_on_close(r) & stays {
+        return Err(Status::CannotDelete);
     }
-    CheckedAccess::Granted(granted)
+    Ok(Terms {
+        granted,
+        share: r.share,
+    })
 }
 
 // Step 9: a new file's type.
+#[tactic(auto, unfolding(store::specs::Prepare::new_type))]
 fn new_type(r: Request) -> FileType
     ensures { result ≡ new_type r }
 {
@@ -68,6 +62,7 @@ fn new_type(r: Request) -> FileType
 }
 
 // Its granted access: all of it where the maximum is asked.
+#[tactic(auto, unfolding(store::specs::Prepare::granted_new))]
 fn granted_new(access: u32) -> u32
     ensures { result ≡ granted_new access }
 {
@@ -79,6 +74,7 @@ fn granted_new(access: u32) -> u32
 }
 
 // Its attributes: those asked, the parent's not-content-indexed bit, and what its type has.
+#[tactic(auto, unfolding(store::specs::Prepare::attributes_new))]
 fn attributes_new(r: Request, parent: File) -> u32
     ensures { result ≡ attributes_new r parent }
 {
@@ -104,82 +100,71 @@ fn add_right(r: Request) -> u32
 
 // Step 9: a temporary directory is refused first, then a read-only file that would be deleted on close, then by the
 // parent's mask.
-#[tactic(auto, using(crate::proofs::NewFiles::temporary_refused, crate::proofs::NewFiles::kept, crate::proofs::NewFiles::mask_refuses, crate::proofs::NewFiles::file_admitted), unfolding(open_steps::specs::Pendings::as_pending, open_steps::specs::Pendings::as_file, store::specs::Prepare::file_new))]
-fn admit_file(b: &[u8], r: Request, dir: FileNo, leaf: LeafParts) -> PendingOpen
-    requires { length b.now ≡ tables_size }
-    ensures { (path : List ℕ) → as_pending (decode b.now).volume.files path result ≡ admit_file (namespace (decode b.now).volume) r dir (as_leaf path leaf) }
+fn admit_file(
+    b: &TableBytes,
+    r: Request,
+    dir: FileNo,
+    leaf: LeafParts,
+) -> Result<PendingOpen, Status>
+    ensures { (path : List ℕ) → as_checked (as_pending (decode b.now).volume.files path) result ≡ admit_file (namespace (decode b.now).volume) r dir (as_leaf path leaf) }
 {
     let temporary_directory = wants_directory(r) & bits::has(r.attributes, TEMPORARY);
     let cannot_delete = deletes_on_close(r) & bits::has(r.attributes, READ_ONLY);
     let parent = read_file(b, dir);
     let may_add = bits::has(mask_of(parent, r.account), add_right(r));
     if temporary_directory {
-        return PendingOpen::Refused(Status::InvalidParameter);
+        return Err(Status::InvalidParameter);
     }
     if cannot_delete {
-        return PendingOpen::Refused(Status::CannotDelete);
+        return Err(Status::CannotDelete);
     }
     if !may_add {
-        return PendingOpen::Refused(Status::AccessDenied);
+        return Err(Status::AccessDenied);
     }
-    PendingOpen::NewFile(FileToAdd {
+    Ok(PendingOpen::NewFile(FileToAdd {
         dir,
         leaf,
         file_type: new_type(r),
         attributes: attributes_new(r, parent),
-        granted: granted_new(r.access),
-        share: r.share,
-    })
+        terms: Terms {
+            granted: granted_new(r.access),
+            share: r.share,
+        },
+    }))
 }
 
 // Step 10: share read is not offered, and the account's mask lacks some bit of 0x120116.
+#[tactic(auto, unfolding(store::specs::Prepare::read_sharing_of, open_steps::specs::Pendings::as_read_sharing))]
 fn read_sharing(r: Request, f: File) -> SharingRule
     ensures { as_read_sharing result ≡ read_sharing_of r f }
 {
     if bits::has(r.share, SHARE_READ) | bits::within(FILE_GENERIC_WRITE, mask_of(f, r.account)) {
-        return SharingRule::AsOffered;
+        SharingRule::AsOffered
+    } else if bits::has(r.options, DISALLOW_EXCLUSIVE) {
+        SharingRule::DeniedIfAlone
+    } else {
+        SharingRule::AddedIfAlone
     }
-    if bits::has(r.options, DISALLOW_EXCLUSIVE) {
-        return SharingRule::DeniedIfAlone;
-    }
-    SharingRule::AddedIfAlone
 }
 
 // The access rule on a stream that is there: `e` comes with the terms asked, and goes on with those granted.
-fn admit_existing(b: &[u8], r: Request, e: ExistingOpen) -> PendingOpen
-    requires { length b.now ≡ tables_size }
-    ensures { (path : List ℕ) → as_pending (decode b.now).volume.files path result ≡ admit_existing (namespace (decode b.now).volume) r (as_existing e) }
+fn admit_existing(b: &TableBytes, r: Request, e: ExistingOpen) -> Result<PendingOpen, Status>
+    ensures { (path : List ℕ) → as_checked (as_pending (decode b.now).volume.files path) result ≡ admit_existing (namespace (decode b.now).volume) r (as_existing e) }
 {
-    let file = e.file;
-    let stream = e.stream;
-    let read_sharing = e.read_sharing;
-    let action = e.action;
-    let attributes = e.attributes;
-    let access = grant(b, r, file, e.granted);
-    match access {
-        CheckedAccess::Refused(denial) => PendingOpen::Refused(denial),
-        CheckedAccess::Granted(granted) => PendingOpen::Existing(ExistingOpen {
-            file,
-            stream,
-            granted,
-            share: r.share,
-            read_sharing,
-            action,
-            attributes,
-        }),
-    }
+    let terms = grant(b, r, e.file, e.terms.granted)?;
+    Ok(PendingOpen::Existing(ExistingOpen { terms, ..e }))
 }
 
 // Steps 10 and 11, open or open-if of what was found.
+#[tactic(auto, unfolding(store::specs::Prepare::admit_open, open_steps::specs::Pendings::as_existing, records::specs::Checked::as_option))]
 fn admit_open(
-    b: &[u8],
+    b: &TableBytes,
     r: Request,
     file: FileNo,
     stream: StreamNo,
     read_sharing: SharingRule,
-) -> PendingOpen
-    requires { length b.now ≡ tables_size }
-    ensures { (path : List ℕ) → as_pending (decode b.now).volume.files path result ≡ admit_open (namespace (decode b.now).volume) r file stream (as_read_sharing read_sharing) }
+) -> Result<PendingOpen, Status>
+    ensures { (path : List ℕ) → as_checked (as_pending (decode b.now).volume.files path) result ≡ admit_open (namespace (decode b.now).volume) r file stream (as_read_sharing read_sharing) }
 {
     admit_existing(
         b,
@@ -187,16 +172,19 @@ fn admit_open(
         ExistingOpen {
             file,
             stream,
-            granted: r.access,
-            share: r.share,
+            terms: Terms {
+                granted: r.access,
+                share: r.share,
+            },
             read_sharing,
             action: CreateAction::Opened,
-            attributes: NewAttributes::Kept,
+            attributes: None,
         },
     )
 }
 
 // The file is hidden or system, and was not so asked.
+#[tactic(auto, unfolding(store::specs::Prepare::hidden_or_system))]
 fn hidden_or_system(r: Request, f: File) -> bool
     ensures { result ≡ hidden_or_system r f }
 {
@@ -206,6 +194,7 @@ fn hidden_or_system(r: Request, f: File) -> bool
 
 // What the access gains before the access rule: the bits for the file's attributes where its stream without a name is
 // replaced, and those for the replacing itself.
+#[tactic(auto, unfolding(store::specs::Prepare::gained))]
 fn gained(r: Request, unnamed: bool) -> u32
     ensures { result ≡ gained r unnamed }
 {
@@ -219,6 +208,7 @@ fn gained(r: Request, unnamed: bool) -> u32
 }
 
 // What is done to the stream.
+#[tactic(auto, unfolding(store::specs::Prepare::replacing))]
 fn replacing(r: Request) -> CreateAction
     ensures { result ≡ replacing r }
 {
@@ -230,23 +220,25 @@ fn replacing(r: Request) -> CreateAction
 }
 
 // The file's attributes: replaced with its stream without a name.
-fn replacement(r: Request, unnamed: bool) -> NewAttributes
-    ensures { as_attributes result ≡ replacement r unnamed }
+#[tactic(auto, unfolding(store::specs::Prepare::replacement, records::specs::Checked::as_option))]
+fn replacement(r: Request, unnamed: bool) -> Option<u32>
+    ensures { as_option result ≡ replacement r unnamed }
 {
-    if unnamed {
-        NewAttributes::Set(bits::without(r.attributes | ARCHIVE, 0x2080))
-    } else {
-        NewAttributes::Kept
-    }
+    unnamed.then_some(bits::without(r.attributes | ARCHIVE, 0x2080))
 }
 
 // Step 11, stream found, to be replaced: the file's attributes are looked at as they were.
-fn admit_replace(b: &[u8], r: Request, file: FileNo, stream: StreamNo, unnamed: bool) -> PendingOpen
-    requires { length b.now ≡ tables_size }
-    ensures { (path : List ℕ) → as_pending (decode b.now).volume.files path result ≡ admit_replace (namespace (decode b.now).volume) r file stream unnamed }
+fn admit_replace(
+    b: &TableBytes,
+    r: Request,
+    file: FileNo,
+    stream: StreamNo,
+    unnamed: bool,
+) -> Result<PendingOpen, Status>
+    ensures { (path : List ℕ) → as_checked (as_pending (decode b.now).volume.files path) result ≡ admit_replace (namespace (decode b.now).volume) r file stream unnamed }
 {
     if unnamed & hidden_or_system(r, read_file(b, file)) {
-        return PendingOpen::Refused(Status::AccessDenied);
+        return Err(Status::AccessDenied);
     }
     admit_existing(
         b,
@@ -254,8 +246,10 @@ fn admit_replace(b: &[u8], r: Request, file: FileNo, stream: StreamNo, unnamed: 
         ExistingOpen {
             file,
             stream,
-            granted: r.access | gained(r, unnamed),
-            share: r.share,
+            terms: Terms {
+                granted: r.access | gained(r, unnamed),
+                share: r.share,
+            },
             read_sharing: SharingRule::AsOffered,
             action: replacing(r),
             attributes: replacement(r, unnamed),
@@ -264,33 +258,36 @@ fn admit_replace(b: &[u8], r: Request, file: FileNo, stream: StreamNo, unnamed: 
 }
 
 // Step 11, stream missing: the access rule first, then the volume's mark.
-fn admit_stream(b: &[u8], r: Request, file: FileNo, leaf: LeafParts) -> PendingOpen
-    requires { length b.now ≡ tables_size }
-    ensures { (path : List ℕ) → as_pending (decode b.now).volume.files path result ≡ admit_stream (namespace (decode b.now).volume) r file (as_leaf path leaf) }
+fn admit_stream(
+    b: &TableBytes,
+    r: Request,
+    file: FileNo,
+    leaf: LeafParts,
+) -> Result<PendingOpen, Status>
+    ensures { (path : List ℕ) → as_checked (as_pending (decode b.now).volume.files path) result ≡ admit_stream (namespace (decode b.now).volume) r file (as_leaf path leaf) }
 {
-    let access = grant(b, r, file, r.access | WRITE_DATA);
-    match access {
-        CheckedAccess::Refused(refusal) => PendingOpen::Refused(refusal),
-        CheckedAccess::Granted(granted) => {
-            if read_mark(b) {
-                return PendingOpen::Refused(Status::MediaWriteProtected);
-            }
-            let f = read_file(b, file);
-            PendingOpen::NewStream(StreamToAdd {
-                file,
-                leaf,
-                attributes: f.attributes | ARCHIVE,
-                granted,
-                share: r.share,
-            })
-        }
+    let terms = grant(b, r, file, r.access | WRITE_DATA)?;
+    if read_mark(b) {
+        return Err(Status::MediaWriteProtected);
     }
+    Ok(PendingOpen::NewStream(StreamToAdd {
+        file,
+        leaf,
+        attributes: read_file(b, file).attributes | ARCHIVE,
+        terms,
+    }))
 }
 
 // Step 11, stream found: opened, or replaced.
-fn admit_found(b: &[u8], r: Request, file: FileNo, stream: StreamNo, unnamed: bool) -> PendingOpen
-    requires { length b.now ≡ tables_size }
-    ensures { (path : List ℕ) → as_pending (decode b.now).volume.files path result ≡ cond (one_of r.disposition (open_only ∷ open_if ∷ [])) (admit_open (namespace (decode b.now).volume) r file stream as_offered) (admit_replace (namespace (decode b.now).volume) r file stream unnamed) }
+#[tactic(auto, unfolding(open_steps::specs::Pendings::as_read_sharing))]
+fn admit_found(
+    b: &TableBytes,
+    r: Request,
+    file: FileNo,
+    stream: StreamNo,
+    unnamed: bool,
+) -> Result<PendingOpen, Status>
+    ensures { (path : List ℕ) → as_checked (as_pending (decode b.now).volume.files path) result ≡ cond (one_of r.disposition (open_only ∷ open_if ∷ [])) (admit_open (namespace (decode b.now).volume) r file stream as_offered) (admit_replace (namespace (decode b.now).volume) r file stream unnamed) }
 {
     if only_opens(r) {
         admit_open(b, r, file, stream, SharingRule::AsOffered)
@@ -299,26 +296,38 @@ fn admit_found(b: &[u8], r: Request, file: FileNo, stream: StreamNo, unnamed: bo
     }
 }
 
-// The access to a target; a refusal of an earlier step stays.
-pub fn admit(b: &[u8], r: Request, path: &[u16], target: FoundTarget) -> PendingOpen
-    requires { length b.now ≡ tables_size }
-    ensures { as_pending (decode b.now).volume.files path.now result ≡ admitted (namespace (decode b.now).volume) r (as_target path.now target) }
+// The access to a target.
+#[tactic(auto, unfolding(records::specs::Namespace::namespace, store::specs::Prepare::admit, open_steps::specs::Targets::as_target, open_steps::specs::Targets::as_resolved, paths::specs::Positions::as_leaf, lists::specs::Lists::is_empty))]
+fn admit_target(
+    b: &TableBytes,
+    r: Request,
+    path: &[u16],
+    target: FoundTarget,
+) -> Result<PendingOpen, Status>
+    ensures { as_checked (as_pending (decode b.now).volume.files path.now) result ≡ admit (namespace (decode b.now).volume) r (as_target path.now target) }
 {
     match target {
-        FoundTarget::Refused(status) => PendingOpen::Refused(status),
         FoundTarget::Directory(at, stream) => {
-            let file = at.file;
-            admit_open(b, r, file, stream, read_sharing(r, read_file(b, file)))
+            let sharing = read_sharing(r, read_file(b, at.file));
+            admit_open(b, r, at.file, stream, sharing)
         }
         FoundTarget::Stream(at, leaf, stream) => {
-            let file = at.file;
-            let name = leaf.stream;
-            admit_found(b, r, file, stream, part_of(path, name).len() == 0)
+            admit_found(b, r, at.file, stream, part_of(path, leaf.stream).is_empty())
         }
-        FoundTarget::NoStream(at, leaf) => {
-            let file = at.file;
-            admit_stream(b, r, file, leaf)
-        }
+        FoundTarget::NoStream(at, leaf) => admit_stream(b, r, at.file, leaf),
         FoundTarget::NoFile(dir, leaf) => admit_file(b, r, dir, leaf),
     }
+}
+
+// The same; a refusal of an earlier step stays.
+pub fn admit(
+    b: &TableBytes,
+    r: Request,
+    path: &[u16],
+    target: Result<FoundTarget, Status>,
+) -> Result<PendingOpen, Status>
+    ensures { as_checked (as_pending (decode b.now).volume.files path.now) result ≡ admitted (namespace (decode b.now).volume) r (as_checked (as_target path.now) target) }
+{
+    let found = target?;
+    admit_target(b, r, path, found)
 }

@@ -23,10 +23,9 @@
 #![tactic(auto)]
 
 ghost use Rattle.std.specs.Prelude.{◌≡◌, length};
-ghost use Rattle.layout.specs.Layout.{tables_size};
 ghost use Rattle.audit_cases.specs.Places.{Place};
 
-use layout::{TABLES_SIZE, kind_of};
+use layout::{TABLES_SIZE, TableBytes, kind_of};
 use records::constants::ALL_ACCESS;
 use records::sizes::{ACCOUNTS, FILE_NAME_LIMIT, FILE_SLOTS, LINK_SLOTS, OPEN_SLOTS, STREAM_SLOTS};
 use records::{File, FileNo, Handle, Link, LinkNo, Open, ShareCounts, Stream, StreamNo};
@@ -44,19 +43,21 @@ const INPUT_LIMIT: usize = 0x1_0000;
 // The slot and eleven fields.
 const WORDS: usize = 12;
 
-// What has been read of a change: its letter, its words, the one that is being read, and the units of a name, once it has begun.
+// What a byte of a change goes to: the letter, a word, or a unit of the name.
+#[derive(Clone, Copy)]
+enum Part {
+    Letter,
+    Word(usize),
+    Unit(usize),
+}
+
+// What has been read of a change: its letter, its words and its name, and what comes next.
 #[derive(Clone, Copy)]
 struct Change {
     table: u8,
     words: [u32; WORDS],
-    at: usize,
-    in_name: bool,
-    length: usize,
     name: [u16; FILE_NAME_LIMIT],
-}
-
-fn say(rt: &impl Print, text: &[u8]) -> io::Result<()> {
-    rt.write_all(text)
+    next: Part,
 }
 
 fn low(number: u32) -> u16 {
@@ -67,19 +68,17 @@ fn low(number: u32) -> u16 {
 fn find(text: &[u8], byte: u8, at: usize) -> usize
     ensures { Place at (length text.now) result }
 {
-    let mut i = at;
-    while i < text.len() {
+    for i in at..text.len() {
         if text[i] == byte {
             return i;
         }
-        i += 1;
     }
     text.len()
 }
 
 // A number with a hexadecimal digit more.
 fn with_digit(number: u32, byte: u8) -> u32 {
-    let code = byte as u32;
+    let code = u32::from(byte);
     number % 0x100_0000 * 16 + code % 16 + code / 64 * 9
 }
 
@@ -88,24 +87,33 @@ fn unit_of(byte: u8) -> u16 {
         b'_' => 0,
         b'~' => 1,
         b'^' => 0x1F,
-        _ => byte as u16,
+        _ => u16::from(byte),
     }
 }
 
-// A change with a byte more. One too many wraps round.
+// A change with a byte more. A word or a unit too many wraps round.
 fn with_byte(c: Change, byte: u8) -> Change {
     let mut after = c;
-    let at = c.at % WORDS;
-    let unit = c.length % FILE_NAME_LIMIT;
-    if c.in_name {
-        after.name[unit] = unit_of(byte);
-        after.length = unit + 1;
-        return after;
-    }
-    match byte {
-        b' ' => after.at = at + 1,
-        b'=' => after.in_name = true,
-        _ => after.words[at] = with_digit(after.words[at], byte),
+    match c.next {
+        Part::Letter => {
+            if byte != b' ' && byte != 0 {
+                after.table = byte;
+                after.next = Part::Word(WORDS - 1);
+            }
+        }
+        Part::Word(at) => {
+            let word = at % WORDS;
+            match byte {
+                b' ' => after.next = Part::Word(word + 1),
+                b'=' => after.next = Part::Unit(0),
+                _ => after.words[word] = with_digit(c.words[word], byte),
+            }
+        }
+        Part::Unit(at) => {
+            let unit = at % FILE_NAME_LIMIT;
+            after.name[unit] = unit_of(byte);
+            after.next = Part::Unit(unit + 1);
+        }
     }
     after
 }
@@ -115,20 +123,11 @@ fn change_of(text: &[u8]) -> Change {
     let mut change = Change {
         table: 0,
         words: [0; WORDS],
-        at: WORDS - 1,
-        in_name: false,
-        length: 0,
         name: [0; FILE_NAME_LIMIT],
+        next: Part::Letter,
     };
-    let mut i = 0;
-    while i < text.len() {
-        let byte = text[i];
-        if change.table != 0 {
-            change = with_byte(change, byte);
-        } else if byte != b' ' {
-            change.table = byte;
-        }
-        i += 1;
+    for byte in text {
+        change = with_byte(change, *byte);
     }
     change
 }
@@ -146,17 +145,16 @@ fn file_of(c: Change) -> File {
 }
 
 fn link_of(c: Change) -> Link {
-    let words = c.words;
-    let name = c.name;
     Link {
-        parent: FileNo(low(words[1])),
-        name,
-        file: FileNo(low(words[2])),
+        parent: FileNo(low(c.words[1])),
+        name: c.name,
+        file: FileNo(low(c.words[2])),
     }
 }
 
 fn stream_of(c: Change) -> Stream {
     let words = c.words;
+    // Within the literal the borrow checker does not cover it.
     let name = c.name;
     Stream {
         file: FileNo(low(words[2])),
@@ -178,7 +176,7 @@ fn stream_of(c: Change) -> Stream {
 fn open_of(c: Change) -> Open {
     let words = c.words;
     Open {
-        handle: Handle(words[1] as u64),
+        handle: Handle(u64::from(words[1])),
         file: FileNo(low(words[2])),
         stream: StreamNo(low(words[3])),
         granted: words[4],
@@ -201,70 +199,36 @@ fn slots_of(table: u8) -> usize {
 }
 
 // The opens of a run of slots, alike but for their handles.
-fn put_opens(tables: &mut [u8], c: Change)
-    requires { length tables.old ≡ tables_size }
-    ensures { length tables.new ≡ tables_size }
-{
-    let words = c.words;
-    let last = words[1] as usize;
-    let mut o = open_of(c);
-    let mut slot = words[0] as usize;
-    while slot < OPEN_SLOTS {
-        let next = slot + 1;
-        let handle = Handle(next as u64);
-        o.handle = handle;
-        if slot <= last {
-            write_open(tables, slot, o);
-        }
-        slot = next;
+fn put_opens(tables: &mut TableBytes, c: Change) {
+    let o = open_of(c);
+    let end = OPEN_SLOTS.min(c.words[1] as usize + 1);
+    for slot in c.words[0] as usize..end {
+        let handle = Handle(slot as u64 + 1);
+        write_open(tables, slot, Open { handle, ..o });
     }
 }
 
 // The tables with the change.
-fn put(rt: &impl Print, tables: &mut [u8], c: Change) -> io::Result<()>
-    requires { length tables.old ≡ tables_size }
-    ensures { length tables.new ≡ tables_size }
-{
-    let words = c.words;
-    let slot = words[0];
+fn put(rt: &impl Print, tables: &mut TableBytes, c: Change) -> io::Result<()> {
+    let slot = c.words[0];
     if slots_of(c.table) <= slot as usize {
-        return say(rt, b" ?");
+        return rt.write_all(b" ?");
     }
-    if c.table == b'F' {
-        write_file(tables, FileNo(low(slot)), file_of(c));
-        return Ok(());
-    }
-    if c.table == b'L' {
-        write_link(tables, LinkNo(low(slot)), link_of(c));
-        return Ok(());
-    }
-    if c.table == b'S' {
-        write_stream(tables, StreamNo(low(slot)), stream_of(c));
-        return Ok(());
-    }
-    if c.table == b'O' {
-        write_open(tables, slot as usize, open_of(c));
-        return Ok(());
-    }
-    if c.table == b'R' {
-        put_opens(tables, c);
-        return Ok(());
-    }
-    if c.table == b'N' {
-        write_next(tables, Handle(slot as u64));
-        return Ok(());
-    }
-    if c.table == b'B' {
-        tables[slot as usize % TABLES_SIZE] = (words[1] % 256) as u8;
+    match c.table {
+        b'F' => write_file(tables, FileNo(low(slot)), file_of(c)),
+        b'L' => write_link(tables, LinkNo(low(slot)), link_of(c)),
+        b'S' => write_stream(tables, StreamNo(low(slot)), stream_of(c)),
+        b'O' => write_open(tables, slot as usize, open_of(c)),
+        b'R' => put_opens(tables, c),
+        b'N' => write_next(tables, Handle(u64::from(slot))),
+        b'B' => tables[slot as usize % TABLES_SIZE] = (c.words[1] % 256) as u8,
+        _ => {}
     }
     Ok(())
 }
 
 // The tables with each change of a text, and how many bytes of them are lent at its end.
-fn put_all(rt: &impl Print, tables: &mut [u8], text: &[u8]) -> io::Result<usize>
-    requires { length tables.old ≡ tables_size }
-    ensures { length tables.new ≡ tables_size }
-{
+fn put_all(rt: &impl Print, tables: &mut TableBytes, text: &[u8]) -> io::Result<usize> {
     let mut lent = TABLES_SIZE;
     let mut at = 0;
     let mut end = find(text, b';', 0);
@@ -280,43 +244,28 @@ fn put_all(rt: &impl Print, tables: &mut [u8], text: &[u8]) -> io::Result<usize>
     Ok(lent)
 }
 
-fn copy(from: &[u8], to: &mut [u8]) {
-    let mut i: usize = 0;
-    while i < from.len() && i < to.len() {
-        to[i] = from[i];
-        i += 1;
-    }
-}
-
 // What the audit says of the bytes lent.
-fn verdict(tables: &[u8], lent: usize) -> bool {
-    if lent < tables.len() {
-        return audit::audit(&tables[..lent]);
-    }
-    audit::audit(tables)
+fn verdict(tables: &TableBytes, lent: usize) -> bool {
+    audit::audit(&tables[..lent.min(TABLES_SIZE)])
 }
 
 // A case: its name, and what the audit says of the good tables with its changes.
-fn answer_case(rt: &impl Print, good: &[u8], line: &[u8]) -> io::Result<()> {
+fn answer_case(rt: &impl Print, good: &TableBytes, line: &[u8]) -> io::Result<()> {
     let colon = find(line, b':', 0);
-    say(rt, &line[..colon])?;
+    rt.write_all(&line[..colon])?;
     if colon == line.len() {
-        return say(rt, b" ?\n");
+        return rt.write_all(b" ?\n");
     }
-    let mut tables = [0u8; TABLES_SIZE];
-    copy(good, &mut tables);
+    let mut tables = *good;
     let lent = put_all(rt, &mut tables, &line[colon + 1..])?;
     if verdict(&tables, lent) {
-        say(rt, b" yes\n")
+        rt.write_all(b" yes\n")
     } else {
-        say(rt, b" no\n")
+        rt.write_all(b" no\n")
     }
 }
 
-fn answer_line(rt: &impl Print, tables: &mut [u8], line: &[u8]) -> io::Result<()>
-    requires { length tables.old ≡ tables_size }
-    ensures { length tables.new ≡ tables_size }
-{
+fn answer_line(rt: &impl Print, tables: &mut TableBytes, line: &[u8]) -> io::Result<()> {
     if 0 < line.len() && line[0] == b'+' {
         put_all(rt, tables, &line[1..])?;
         return Ok(());
@@ -324,9 +273,7 @@ fn answer_line(rt: &impl Print, tables: &mut [u8], line: &[u8]) -> io::Result<()
     answer_case(rt, tables, line)
 }
 
-fn answer_lines(rt: &impl Print, tables: &mut [u8], input: &[u8]) -> io::Result<()>
-    requires { length tables.old ≡ tables_size }
-{
+fn answer_lines(rt: &impl Print, tables: &mut TableBytes, input: &[u8]) -> io::Result<()> {
     let mut at = 0;
     while at < input.len() {
         let end = find(input, b'\n', at);
@@ -338,11 +285,7 @@ fn answer_lines(rt: &impl Print, tables: &mut [u8], input: &[u8]) -> io::Result<
 
 // As much of the input as is answered: what lies past it is not.
 fn held(input: &[u8]) -> &[u8] {
-    if INPUT_LIMIT < input.len() {
-        &input[..INPUT_LIMIT]
-    } else {
-        input
-    }
+    &input[..input.len().min(INPUT_LIMIT)]
 }
 
 fn main(rt: HostRuntime) -> io::Result<()> {

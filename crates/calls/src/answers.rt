@@ -27,12 +27,10 @@ pub fn done() -> Answer
 
 // An accepted open.
 pub fn opened(a: AcceptedOpen) -> Answer
-    ensures { result ≡ record { outcome = Success a.action a.handle; granted = a.granted } }
+    ensures { result ≡ record { outcome = Success a.action a.handle; granted = a.terms.granted } }
 {
-    let action = a.action;
-    let handle = a.handle;
     Answer {
-        outcome: Outcome::Success(action, handle),
-        granted: a.granted,
+        outcome: Outcome::Success(a.action, a.handle),
+        granted: a.terms.granted,
     }
 }

@@ -1,8 +1,8 @@
 // A close: consistency, then the open that has the handle is found in the lent row of opens and struck, then what becomes
 // of its file and stream is settled.
-ghost use Rattle.std.specs.Prelude.{◌≡◌, length};
+ghost use Rattle.std.specs.Prelude.{◌≡◌};
 ghost use Rattle.records.specs.Slots.{zero_open};
-ghost use Rattle.layout.specs.Layout.{tables_size, decode, Changed};
+ghost use Rattle.layout.specs.Layout.{decode, Changed};
 ghost use Rattle.tables.specs.Tables.{row_at};
 ghost use Rattle.apply.specs.Applied.{struck_from};
 ghost use Rattle.store.specs.Store.{settled, store_close};
@@ -11,8 +11,8 @@ ghost use Rattle.call_contracts.specs.Performs.{Performs};
 use crate::answers::{done, refused};
 use apply::strike_open;
 use audit::audit;
+use layout::{TABLES_SIZE, TableBytes};
 use open_rows::{change_row, find_open};
-use open_table::OpenSlot;
 use records::slots::ZERO_OPEN;
 use records::{Answer, Handle, Status};
 use records_opens::read_open;
@@ -20,8 +20,7 @@ use settle::settle;
 
 // The open in a row, struck: the row is free in the lent row of opens, and then in the bytes. Then its file and stream, by
 // the opens that remain.
-fn close_row(b: &mut [u8], row: usize)
-    requires { length b.old ≡ tables_size }
+fn close_row(b: &mut TableBytes, row: usize)
     ensures { Changed b.old b.new
         (settled (struck_from (decode b.old) row zero_open) (row_at (decode b.old).opens row)) }
 {
@@ -34,13 +33,15 @@ fn close_row(b: &mut [u8], row: usize)
 pub fn close(b: &mut [u8], h: Handle) -> Answer
     ensures { Performs result b.old b.new (λ t. store_close t h) }
 {
-    if !audit(b) {
+    let Some(tables) = b.as_mut_array::<TABLES_SIZE>() else {
+        return refused(Status::FileCorruptError);
+    };
+    if !audit(tables) {
         return refused(Status::FileCorruptError);
     }
-    let slot = find_open(b, h);
-    let OpenSlot::At(row) = slot else {
+    let Some(row) = find_open(tables, h) else {
         return refused(Status::InvalidHandle);
     };
-    close_row(b, row);
+    close_row(tables, row);
     done()
 }

@@ -1,7 +1,7 @@
 // An open: consistency, then the twelve steps, then what was decided is written.
-ghost use Rattle.std.specs.Prelude.{◌≡◌, length};
+ghost use Rattle.std.specs.Prelude.{◌≡◌};
 ghost use Rattle.records.specs.Namespace.{namespace};
-ghost use Rattle.layout.specs.Layout.{tables_size, decode};
+ghost use Rattle.layout.specs.Layout.{decode};
 ghost use Rattle.store.specs.Complete as definitions;
 ghost use Rattle.store.specs.Store.{store_view, store_open};
 ghost use Rattle.complete.specs.Placing.{Decides};
@@ -12,14 +12,14 @@ use admit::admit;
 use apply::apply_open;
 use audit::audit;
 use complete::complete;
-use open_steps::DecidedOpen;
+use layout::{TABLES_SIZE, TableBytes};
+use open_steps::AcceptedOpen;
 use records::{Answer, Request, Status};
 use request_checks::deletes_on_close;
 use target::find_target;
 
 // The twelve steps.
-fn decide(b: &[u8], r: Request, path: &[u16]) -> DecidedOpen
-    requires { length b.now ≡ tables_size }
+fn decide(b: &TableBytes, r: Request, path: &[u16]) -> Result<AcceptedOpen, Status>
     ensures { Decides (decode b.now) path.now result
         (definitions.decide (store_view (decode b.now)) (namespace (decode b.now).volume) r path.now) }
 {
@@ -31,14 +31,16 @@ fn decide(b: &[u8], r: Request, path: &[u16]) -> DecidedOpen
 pub fn open(b: &mut [u8], r: Request, path: &[u16]) -> Answer
     ensures { Performs result b.old b.new (λ t. store_open t r path.now) }
 {
-    if !audit(b) {
+    let Some(tables) = b.as_mut_array::<TABLES_SIZE>() else {
+        return refused(Status::FileCorruptError);
+    };
+    if !audit(tables) {
         return refused(Status::FileCorruptError);
     }
-    let decided = decide(b, r, path);
-    match decided {
-        DecidedOpen::Refused(status) => refused(status),
-        DecidedOpen::Accepted(accepted) => {
-            apply_open(b, path, accepted);
+    match decide(tables, r, path) {
+        Err(status) => refused(status),
+        Ok(accepted) => {
+            apply_open(tables, path, accepted);
             opened(accepted)
         }
     }

@@ -1,25 +1,23 @@
 -- Laws of `leading`, the count of elements before the first that fails a test, and of parts that end there.
-use Rattle.base.{specs.Base.{ℕ, zero, suc, ◌+◌, ◌-◌, ◌≤◌, ◌<◌, ◌≡◌, Bool, true, false, cond, List, [], ◌∷◌, eqb, length, get_or, take, drop, replicate, slice}, proofs.Laws.{refl, sym, ap, ◌∙◌, arith, drop_of_length-le, length-drop, length-take, eqb-true, drop_next}}
+use Rattle.base.{specs.Base.{ℕ, zero, suc, ◌+◌, ◌-◌, ◌≤◌, ◌<◌, ◌≡◌, Bool, true, false, cond, List, [], ◌∷◌, eqb, length, take, drop, replicate, slice}, proofs.Laws.{refl, sym, ap, ◌∙◌, arith, length-drop, length-take, eqb-true}}
 use lib.Seq.{take-nil, take-take, drop-drop}
-use native.Mathlib.Nat.{add-zero, sub-zero, zero-sub, suc-sub-suc}
+use native.Mathlib.Nat.{sub-zero, zero-sub, suc-sub-suc}
+use Rattle.std.specs.Prelude.{Option}
+use Rattle.std.{specs.{List.{AllWithin, HoldsAt}, Option.{MatchOption, unwrap_or}}, proofs.lemmas.Iterator.{index_from_first}}
 use Rattle.components.specs.Positions.{leading, is_sign}
 
--- a loop at place i that seeks, from `at` on, the first element that fails: what it seeks does not lie before i
-pub record Seeking (p : ℕ → Bool) (us : List ℕ) (at i : ℕ) : Type 0 where
-  pub left : at + leading p (drop at us) ≡ i + leading p (drop i us)
+-- what `position` found in the units from a place on: the first that fails, if any
+abbrev pub FirstFails : (ℕ → Bool) → List ℕ → Option ℕ → Type 0
+FirstFails p us r =
+    MatchOption r (AllWithin (λ u. p u ≡ true) us 0 (length us))
+    (λ i. (i < length us) × HoldsAt (λ u. p u ≡ false) us i × AllWithin (λ u. p u ≡ true) us 0 i)
 
-module _ {p : ℕ → Bool} {us : List ℕ} {at i : ℕ} (seeking : Seeking p us at i) where
-  pub seek_next : i < length us → p (get_or us i 0) ≡ true → Seeking p us at (i + 1)
-  unfolding leading
-  seek_next h e = record { left = seeking.left ∙ rw (drop_next us i 0 h, e) (omega arith) }
-
-  pub seek_stops : i < length us → p (get_or us i 0) ≡ false → i ≡ at + leading p (drop at us)
-  unfolding leading
-  seek_stops h e = sym (seeking.left ∙ rw (drop_next us i 0 h, e) (add-zero i))
-
-  pub seek_end : length us ≤ i → i ≡ at + leading p (drop at us)
-  unfolding leading
-  seek_end h = sym (seeking.left ∙ rw (drop_of_length-le us h) (add-zero i))
+pub leading_found : (p : ℕ → Bool) (us : List ℕ) (r : Option ℕ) → FirstFails p us r → unwrap_or r (length us) ≡ leading p us
+unfolding leading
+leading_found p us r found =
+    sym
+    (index_from_first (leading p) (λ u. p u ≡ false) (λ u. p u ≡ true) refl (λ u us e. rw e)
+    (λ u us e. rw e (let z : suc (leading p us) ≡ leading p us + 1 = omega arith in z)) us r found)
 
 module _ (p : ℕ → Bool) where
   pub leading_le : (us : List ℕ) → leading p us ≤ length us

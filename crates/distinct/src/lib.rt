@@ -14,6 +14,7 @@ const HELD: usize = 256;
 const BUCKETS: usize = 251;
 
 // The bucket of a key.
+#[tactic(auto, unfolding(crate::specs::Buckets::bucket_of))]
 fn bucket(key: u64) -> usize
     ensures { (result ≡ bucket_of key) × (result < buckets) }
 {
@@ -24,24 +25,22 @@ fn bucket(key: u64) -> usize
 fn key_at(keys: &[u64], at: usize) -> u64
     ensures { result ≡ get_or keys.now at 0 }
 {
-    if at < keys.len() { keys[at] } else { 0 }
+    keys.get(at).copied().unwrap_or(0)
 }
 
 // The pointer at a place, which leads back; 0 where there is none.
+#[tactic(auto, unfolding(crate::specs::Buckets::pointer_at))]
 fn pointer_at(next: &[u16], place: usize) -> usize
     ensures { result ≡ pointer_at next.now place }
 {
-    if next.len() <= place {
-        return 0;
+    match next.get(place) {
+        Some(to) if *to as usize <= place => *to as usize,
+        _ => 0,
     }
-    let to = next[place] as usize;
-    if place < to {
-        return 0;
-    }
-    to
 }
 
-// Whether the key is among those that the chain at `first` leads to. A pointer is a place plus one, 0 at a chain's end.
+// Whether the key is among those that the chain at `first` leads to. A pointer is a place plus one, 0 at a chain's end. The
+// pointers stand in an array, as the crates have no heap.
 fn in_chain(keys: &[u64], next: &[u16], first: usize, key: u64) -> bool
     ensures { Chain keys.now next.now first key → result ≡ found keys.now key first }
 {
@@ -60,9 +59,7 @@ fn in_chain(keys: &[u64], next: &[u16], first: usize, key: u64) -> bool
 fn stands_before(keys: &[u64], end: usize, key: u64) -> bool
     ensures { result ≡ found keys.now key end }
 {
-    let mut i = end;
-    while 0 < i {
-        i -= 1;
+    for i in (0..end).rev() {
         if key_at(keys, i) == key {
             return true;
         }
@@ -74,19 +71,16 @@ fn stands_before(keys: &[u64], end: usize, key: u64) -> bool
 fn distinct_by_pairs(keys: &[u64]) -> bool
     ensures { result ≡ pairs differ (keep is_key keys.now) }
 {
-    let mut place = 0;
-    while place < keys.len() {
-        let key = keys[place];
-        if key != 0 && stands_before(keys, place, key) {
+    for (place, key) in keys.iter().enumerate() {
+        if *key != 0 && stands_before(keys, place, *key) {
             return false;
         }
-        place += 1;
     }
     true
 }
 
-// Whether every two keys differ. Each is compared with those before it in its bucket: `head` has each bucket's last key, `next`
-// for each key the one before it.
+// Whether every two keys differ. Each is compared with those before it in its bucket: `head` has each bucket's last key,
+// `next` for each key the one before it.
 pub fn distinct(keys: &[u64]) -> bool
     ensures { result ≡ pairs differ (keep is_key keys.now) }
 {
@@ -95,19 +89,16 @@ pub fn distinct(keys: &[u64]) -> bool
     }
     let mut head = [0u16; BUCKETS];
     let mut next = [0u16; HELD];
-    let mut i = 0;
-    while i < keys.len() {
-        let key = keys[i];
-        if key != 0 {
-            let b = bucket(key);
+    for (i, key) in keys.iter().enumerate() {
+        if *key != 0 {
+            let b = bucket(*key);
             let first = head[b];
-            if in_chain(keys, &next, first as usize, key) {
+            if in_chain(keys, &next, first as usize, *key) {
                 return false;
             }
             next[i] = first;
             head[b] = (i + 1) as u16;
         }
-        i += 1;
     }
     true
 }

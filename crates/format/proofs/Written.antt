@@ -3,7 +3,7 @@ use Rattle.base.{specs.Base.{ℕ, ◌≡◌, true, Bool, List, length, replicate
 use Rattle.codecs.proofs.Zeros.{Zeros, replicate_zeros}
 use Rattle.layout.{specs.{Layout.{tables_size, encode, decode, stands_for_tables, Changed}, Puts.{put_mark, put_next, put_file, put_stream}}, proofs.{Tables.encode-decode, Zeros.{zeros_tables, zeros_stand}}}
 use Rattle.little_endian.specs.LittleEndian.{Bytes}
-use Rattle.format.specs.Format.{root_file, root_stream, fresh_volume, fresh_tables}
+use Rattle.format.specs.{Format.{root_file, root_stream, fresh_volume, fresh_tables}, Bytes.StandFor}
 
 abbrev first_handle : Handle
 first_handle = record { 0 = 1 }
@@ -36,5 +36,8 @@ module _ (masks : List ℕ) (read_only : Bool) (b l m n o p : List ℕ) (long : 
       let size : length l ≡ tables_size = rw cleared (length-replicate {A = ℕ} (length b) 0 ∙ long) in
       stream.stays (file.stays (next.stays (mark.stays (zeros_stand l zeros size))))
 
-  pub written : Bytes p → p ≡ encode (fresh_tables masks read_only)
-  written bytes = sym (encode-decode p bytes written_stands) ∙ ap encode written_tables
+  pub written : StandFor p (fresh_tables masks read_only)
+  written = record { is = written_tables; stands = written_stands }
+
+pub encoded : {bs : List ℕ} {t : Tables} → Bytes bs → StandFor bs t → bs ≡ encode t
+encoded {bs} bytes s = sym (encode-decode bs bytes s.stands) ∙ ap encode s.is

@@ -5,11 +5,11 @@ ghost use Rattle.std.specs.Prelude.{◌≡◌, length, get_or, take, replicate};
 ghost use Rattle.lists.specs.Lists.{padded};
 ghost use Rattle.records.specs.Sizes.{accounts};
 ghost use Rattle.records.specs.State.{Answers};
-ghost use Rattle.layout.specs.Layout.{tables_size, encode};
 ghost use Rattle.format.specs.Format.{root_file, root_stream, fresh_tables};
-ghost use Rattle.format.specs.Bytes.{format_bytes};
+ghost use Rattle.format.specs.Bytes.{format_bytes, StandFor};
 
-use layout::TABLES_SIZE;
+use byte_rows::clear;
+use layout::{TABLES_SIZE, TableBytes};
 use masks::valid_masks;
 use records::constants::DIRECTORY;
 use records::sizes::{ACCOUNTS, STREAM_NAME_LIMIT};
@@ -18,17 +18,6 @@ use records::{Answer, File, FileNo, FileType, Handle, Outcome, Status, Stream, S
 use records_files::write_file;
 use records_streams::write_stream;
 use records_volume::{write_mark, write_next};
-
-// Every byte becomes 0.
-fn clear(b: &mut [u8])
-    ensures { b.new ≡ replicate (length b.old) 0 }
-{
-    let mut i = 0;
-    while i < b.len() {
-        b[i] = 0;
-        i += 1;
-    }
-}
 
 // The mask of an account, zero past the last one.
 fn mask_at(masks: &[u32], account: usize) -> u32
@@ -46,10 +35,8 @@ fn copied(masks: &[u32]) -> [u32; ACCOUNTS]
     ensures { result ≡ take accounts (padded accounts masks.now) }
 {
     let mut copy = [0u32; ACCOUNTS];
-    let mut account = 0;
-    while account < ACCOUNTS {
+    for account in 0..ACCOUNTS {
         copy[account] = mask_at(masks, account);
-        account += 1;
     }
     copy
 }
@@ -80,9 +67,8 @@ fn root_stream() -> Stream
 }
 
 // The bytes of fresh tables: all zero but the mark, the next handle, file 0 and its stream.
-fn write_fresh(b: &mut [u8], masks: [u32; ACCOUNTS], read_only: bool)
-    requires { length b.old ≡ tables_size }
-    ensures { b.new ≡ encode (fresh_tables masks read_only) }
+fn write_fresh(b: &mut TableBytes, masks: [u32; ACCOUNTS], read_only: bool)
+    ensures { StandFor b.new (fresh_tables masks read_only) }
 {
     clear(b);
     write_mark(b, read_only);
@@ -95,19 +81,19 @@ fn write_fresh(b: &mut [u8], masks: [u32; ACCOUNTS], read_only: bool)
 pub fn format(b: &mut [u8], masks: &[u32], read_only: bool) -> Answer
     ensures { Answers result b.new (format_bytes b.old masks.now read_only) }
 {
-    if b.len() != TABLES_SIZE {
+    let Some(tables) = b.as_mut_array::<TABLES_SIZE>() else {
         return Answer {
             outcome: Outcome::Refused(Status::FileCorruptError),
             granted: 0,
         };
-    }
+    };
     if !valid_masks(masks) {
         return Answer {
             outcome: Outcome::Refused(Status::InvalidParameter),
             granted: 0,
         };
     }
-    write_fresh(b, copied(masks), read_only);
+    write_fresh(tables, copied(masks), read_only);
     Answer {
         outcome: Outcome::Done,
         granted: 0,

@@ -1,12 +1,14 @@
 // The image of the tables: a row of blocks of 512 bytes (docs/IMAGE.md). Which record a block holds, and its check.
 #![tactic(auto)]
 
-ghost use Rattle.std.specs.Prelude.{◌≡◌, ◌%◌, length, take};
-ghost use Rattle.image.specs.Blocks.{block_size, check_at, byte_sum, record_of};
+ghost use Rattle.std.specs.Prelude.{◌≡◌, ◌%◌, take};
+ghost use Rattle.image.specs.Blocks.{check_at, byte_sum, record_of};
 
 use records::sizes::{FILE_SLOTS, LINK_SLOTS, STREAM_SLOTS};
 
 pub const BLOCK_SIZE: usize = 512;
+
+pub type Block = [u8; BLOCK_SIZE];
 
 // the place of the check in a block
 pub const CHECK_AT: usize = 510;
@@ -20,7 +22,8 @@ pub const EDITION: u16 = 1;
 
 pub const IMAGE_BLOCKS: usize = 1 + FILE_SLOTS + LINK_SLOTS + STREAM_SLOTS;
 
-// Which record of the tables a block holds, by its slot.
+// Which record of the tables a block holds, by its slot. `Past` is no `None`: the definitions place_of, size_of, preface and
+// spare_for are by these five cases.
 #[derive(Clone, Copy)]
 pub enum BlockRecord {
     Header,
@@ -50,15 +53,12 @@ pub fn record_of(n: usize) -> BlockRecord
 }
 
 // The sum of a block's first 510 bytes modulo 65,536.
-pub fn block_check(block: &[u8]) -> u16
-    requires { length block.now ≡ block_size }
+pub fn block_check(block: &Block) -> u16
     ensures { result ≡ byte_sum (take check_at block.now) % 65536 }
 {
     let mut sum: u32 = 0;
-    let mut i = 0;
-    while i < CHECK_AT {
-        sum += block[i] as u32;
-        i += 1;
+    for byte in &block[..CHECK_AT] {
+        sum += u32::from(*byte);
     }
     (sum % 0x10000) as u16
 }

@@ -12,7 +12,8 @@ ghost use Rattle.image.specs.Alone.{record_in, well_formed, header_alone, file_a
 
 use audit_opens::same_counts;
 use image::{
-    BlockRecord, CHECK_AT, EDITION, HEADER_AT, IMAGE_BLOCKS, RECORD_AT, block_check, record_of,
+    Block, BlockRecord, CHECK_AT, EDITION, HEADER_AT, IMAGE_BLOCKS, RECORD_AT, block_check,
+    record_of,
 };
 use layout::{FILE_SIZE, FILES_AT, LINK_SIZE, MARK_AT, NEXT_AT, STREAM_SIZE};
 use layout_stands::{file_stands, stream_stands};
@@ -30,17 +31,14 @@ fn is_clear(b: &[u8]) -> bool
     ensures { result ≡ same b.now (replicate (length b.now) 0) }
 {
     let mut zeros = true;
-    let mut i = 0;
-    while i < b.len() {
-        zeros = zeros & (b[i] == 0);
-        i += 1;
+    for byte in b {
+        zeros &= *byte == 0;
     }
     zeros
 }
 
 // Whether what stands before the record is right: in the header the edition and the slot counts.
-fn prefaced(held: BlockRecord, block: &[u8]) -> bool
-    requires { length block.now ≡ block_size }
+fn prefaced(held: BlockRecord, block: &Block) -> bool
     ensures { result ≡ same (part block.now number_size (length (preface held))) (preface held) }
 {
     match held {
@@ -71,8 +69,7 @@ fn record_end(held: BlockRecord) -> usize
 }
 
 // Number, check, edition, slot counts and zeros are right. Past the last block none is.
-fn well_formed(n: usize, block: &[u8]) -> bool
-    requires { length block.now ≡ block_size }
+fn well_formed(n: usize, block: &Block) -> bool
     ensures { result ≡ (ltb n image_blocks && well_formed n block.now) }
 {
     if n >= IMAGE_BLOCKS {
@@ -87,33 +84,33 @@ fn well_formed(n: usize, block: &[u8]) -> bool
 }
 
 // A read-only mark that there is, and a next handle.
-fn header_alone(block: &[u8]) -> bool
-    requires { length block.now ≡ block_size }
+#[tactic(auto, using(crate::proofs::Formed::header_parts))]
+fn header_alone(block: &Block) -> bool
     ensures { result ≡ header_alone (record_in Header block.now) }
 {
     (read_u16(block, HEADER_AT + MARK_AT) < 2) & (read_u64(block, HEADER_AT + NEXT_AT) != 0)
 }
 
 // A file by itself, without a mark; file 0 is a directory.
+#[tactic(auto, unfolding(image::specs::Alone::file_alone))]
 fn file_alone(k: usize, f: File) -> bool
     ensures { result ≡ file_alone k f }
 {
-    let t = f.file_type;
-    audit_files::slot_consistent(f) & !f.delete_pending & ((k != 0) | is_directory(t))
+    audit_files::slot_consistent(f) & !f.delete_pending & ((k != 0) | is_directory(f.file_type))
 }
 
 // A used link is of a file that there is, in one that there is. The file is not the root and not its own parent.
+#[tactic(auto, unfolding(image::specs::Alone::link_placed))]
 fn link_placed(l: Link) -> bool
     ensures { result ≡ link_placed l }
 {
-    let file = l.file.0;
-    let parent = l.parent.0;
-    ((file as usize) < FILE_SLOTS)
-        & ((parent as usize) < FILE_SLOTS)
-        & (file != 0)
-        & (file != parent)
+    ((l.file.0 as usize) < FILE_SLOTS)
+        & ((l.parent.0 as usize) < FILE_SLOTS)
+        & (l.file.0 != 0)
+        & (l.file != l.parent)
 }
 
+#[tactic(auto, unfolding(image::specs::Alone::link_alone))]
 fn link_alone(l: Link) -> bool
     ensures { result ≡ link_alone l }
 {
@@ -125,16 +122,13 @@ fn link_alone(l: Link) -> bool
 fn stream_placed(s: Stream) -> bool
     ensures { result ≡ stream_placed (bare s) }
 {
-    let file = s.file.0;
-    let t = s.stream_type;
-    if file as usize >= FILE_SLOTS {
+    if s.file.0 as usize >= FILE_SLOTS {
         return false;
     }
-    if is_directory(t) {
-        let name = s.name;
-        unit_at(&name, 0) == 0
+    if is_directory(s.stream_type) {
+        unit_at(&s.name, 0) == 0
     } else {
-        file != 0
+        s.file.0 != 0
     }
 }
 
@@ -142,17 +136,14 @@ fn stream_placed(s: Stream) -> bool
 fn stream_alone(s: Stream) -> bool
     ensures { result ≡ stream_alone s }
 {
-    let t = s.stream_type;
-    let counts = s.counts;
-    audit_streams::slot_consistent(s, t)
+    audit_streams::slot_consistent(s, s.stream_type)
         & (!stream_used(s) | stream_placed(s))
-        & same_counts(counts, ZERO_COUNTS)
+        & same_counts(s.counts, ZERO_COUNTS)
         & !s.delete_pending
 }
 
 // The record in a block by itself.
-fn record_alone(held: BlockRecord, block: &[u8]) -> bool
-    requires { length block.now ≡ block_size }
+fn record_alone(held: BlockRecord, block: &Block) -> bool
     ensures { result ≡ record_alone held (record_in held block.now) }
 {
     match held {
@@ -167,8 +158,7 @@ fn record_alone(held: BlockRecord, block: &[u8]) -> bool
 }
 
 // A block that an image of consistent tables can have at a number.
-pub fn block_alone(n: usize, block: &[u8]) -> bool
-    requires { length block.now ≡ block_size }
+pub fn block_alone(n: usize, block: &Block) -> bool
     ensures { result ≡ block_alone n block.now }
 {
     well_formed(n, block) && record_alone(record_of(n), block)

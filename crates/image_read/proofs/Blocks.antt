@@ -1,18 +1,26 @@
 -- Blocks of a row read one after another: what a turn of the loop does.
 use lib.Seq.{drop-drop}
-use Rattle.base.{specs.Base.{ℕ, suc, ◌+◌, ◌*◌, ◌-◌, ◌≤◌, ◌<◌, ◌≡◌, true, false, List, length, drop, passed, refuse, refuse_if, ◌>>◌, ◌>>=◌, FileCorruptError}, proofs.Laws.{◌∙◌, arith}}
-use Rattle.codecs.proofs.Fields.{part_length}
+use native.Mathlib.Nat.{mul-suc, mul-zero, add_comm}
+use Rattle.std.specs.Simd.{first_chunks}
+use Rattle.base.{specs.Base.{ℕ, zero, suc, ◌+◌, ◌*◌, ◌-◌, ◌≤◌, ◌<◌, ◌≡◌, true, false, List, length, drop, get_or, passed, refuse, refuse_if, ◌>>◌, ◌>>=◌, FileCorruptError}, proofs.Laws.{◌∙◌, arith}}
 use Rattle.little_endian.specs.LittleEndian.{part}
 use Rattle.image.specs.{Blocks.block_size, Alone.block_alone, Image.{Reading, blocks_in, put_block, read_block, read_blocks}}
+
+chunks : (w k : ℕ) (xs : List ℕ) (i : ℕ) (d : List ℕ) → i < k → get_or (first_chunks w k xs) i d ≡ part xs (w * i) w
+chunks w zero xs i d h = absurd (let z : ⊥ = omega arith in z)
+chunks w (suc k) xs zero d h = rw mul-zero
+chunks w (suc k) xs (suc i) d h =
+    let e : w * suc i ≡ w + w * i = mul-suc _ _ ∙ add_comm _ _ in
+    chunks w k (drop w xs) i d (omega arith) ∙ rw (e, drop-drop)
 
 -- a row, from a reading on
 module _ (s : Reading) (row : List ℕ) where
   abbrev count : ℕ
   count = blocks_in (length row)
 
-  -- block i of the row, as the code has it: from a place to another
+  -- block i of the row
   abbrev pub nth : ℕ → List ℕ
-  nth i = part row (block_size * i) (block_size * i + block_size - block_size * i)
+  nth i = part row (block_size * i) block_size
 
   abbrev reached : List ℕ → ℕ → Reading
   reached spare i = record { spare = spare; reader = s.reader + i }
@@ -28,18 +36,16 @@ module _ (s : Reading) (row : List ℕ) where
       let n : s.reader + 0 ≡ s.reader = omega arith in
       record { within = omega arith; rest = rw (k, n) }
 
-  nth_is : (i : ℕ) → nth i ≡ part row (block_size * i) block_size
-  nth_is i = let n : block_size * i + block_size - block_size * i ≡ block_size = omega arith in rw n
-
-  pub nth_length : (i : ℕ) → i < count → length (nth i) ≡ block_size
-  nth_length i h = rw (nth_is i) (part_length row (block_size * i) block_size (omega arith))
+  -- the row's blocks, as the library cuts them
+  pub chunk : {blocks : List (List ℕ)} (i : ℕ) (d : List ℕ) → blocks ≡ first_chunks block_size count row → i < count → get_or blocks i d ≡ nth i
+  chunk i d e h = rw e (chunks block_size count row i d h)
 
   module _ (spare : List ℕ) (i : ℕ) (read : ReadTo spare i) where
     module _ (more : i < count) where
       turn : read_blocks s count row
           ≡ (read_block (reached spare i) (nth i) >>= (λ next. read_blocks next (count - (i + 1)) (drop block_size (drop (block_size * i) row))))
       unfolding read_blocks
-      turn = let k : count - i ≡ suc (count - (i + 1)) = omega arith in read.rest ∙ rw (k, nth_is i)
+      turn = let k : count - i ≡ suc (count - (i + 1)) = omega arith in read.rest ∙ rw k
 
       pub read_stops : block_alone (s.reader + i) (nth i) ≡ false → read_blocks s count row ≡ refuse FileCorruptError
       unfolding read_block refuse_if ◌>>◌ ◌>>=◌

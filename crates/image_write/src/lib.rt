@@ -5,7 +5,6 @@ ghost use Rattle.std.specs.Prelude.{◌+◌, ◌≡◌, ◌≤◌, ◌&&◌, leb
 ghost use Rattle.records.specs.State.{Answers};
 ghost use Rattle.little_endian.specs.LittleEndian.{part};
 ghost use Rattle.little_endian.specs.Writes.{Wrote};
-ghost use Rattle.layout.specs.Layout.{tables_size};
 ghost use Rattle.image.specs.Blocks.{block_size, image_blocks, number_size, record_of};
 ghost use Rattle.image.specs.declared.BlockRecord.TheVariants.{Header};
 ghost use Rattle.image.specs.Image.{whole_blocks, blocks_in, write_image};
@@ -14,19 +13,25 @@ ghost use Rattle.image_write.specs.Kept.{kept_content, kept_block};
 use audit::audit;
 use byte_rows::{clear, copy_part};
 use image::{
-    BLOCK_SIZE, BlockRecord, CHECK_AT, EDITION, HEADER_AT, IMAGE_BLOCKS, RECORD_AT, block_check,
-    record_of,
+    BLOCK_SIZE, Block, BlockRecord, CHECK_AT, EDITION, HEADER_AT, IMAGE_BLOCKS, RECORD_AT,
+    block_check, record_of,
 };
 use layout::{
     COUNTS_IN, FILE_MARK_IN, FILE_SIZE, FILES_AT, LINK_SIZE, LINKS_AT, STREAM_SIZE, STREAMS_AT,
+    TABLES_SIZE, TableBytes,
 };
 use little_endian::{write_u16, write_u32};
 use records::sizes::{FILE_SLOTS, LINK_SLOTS, STREAM_SLOTS};
 use records::{Answer, Outcome, Status};
 
+// What a call answers that refuses unsound tables.
+const CORRUPT: Answer = Answer {
+    outcome: Outcome::Refused(Status::FileCorruptError),
+    granted: 0,
+};
+
 // The header's content: edition, slot counts, read-only mark and next handle.
-fn write_header(tables: &[u8], block: &mut [u8])
-    requires { (length tables.now ≡ tables_size) × (length block.old ≡ block_size) }
+fn write_header(tables: &TableBytes, block: &mut Block)
     ensures { Wrote block.old number_size (kept_content tables.now Header) block.new }
 {
     write_u16(block, RECORD_AT, EDITION);
@@ -37,8 +42,7 @@ fn write_header(tables: &[u8], block: &mut [u8])
 }
 
 // A block's content: of its record what an image keeps.
-fn write_content(tables: &[u8], n: usize, block: &mut [u8])
-    requires { (length tables.now ≡ tables_size) × (length block.old ≡ block_size) }
+fn write_content(tables: &TableBytes, n: usize, block: &mut Block)
     ensures { Wrote block.old number_size (kept_content tables.now (record_of n)) block.new }
 {
     match record_of(n) {
@@ -69,8 +73,7 @@ fn write_content(tables: &[u8], n: usize, block: &mut [u8])
 }
 
 // A block: its number, its content, zeros, and the check over all of these.
-fn write_block(tables: &[u8], n: u32, block: &mut [u8])
-    requires { (length tables.now ≡ tables_size) × (length block.old ≡ block_size) }
+fn write_block(tables: &TableBytes, n: u32, block: &mut Block)
     ensures { block.new ≡ kept_block tables.now n }
 {
     clear(block);
@@ -78,6 +81,16 @@ fn write_block(tables: &[u8], n: u32, block: &mut [u8])
     write_content(tables, n as usize, block);
     let check = block_check(block);
     write_u16(block, CHECK_AT, check);
+}
+
+// The same, of a part of a row that has a block's length.
+fn write_part(tables: &TableBytes, n: u32, part: &mut [u8])
+    requires { length part.old ≡ block_size }
+    ensures { part.new ≡ kept_block tables.now n }
+{
+    if let Some(block) = part.as_mut_array::<BLOCK_SIZE>() {
+        write_block(tables, n, block);
+    }
 }
 
 // Whether a row of so many bytes is whole blocks of the image, from block `first` on.
@@ -93,28 +106,22 @@ fn row_fits(first: u32, long: usize) -> bool
 pub fn write_image(tables: &[u8], first: u32, row: &mut [u8]) -> Answer
     ensures { Answers result row.new (write_image tables.now first row.old) }
 {
-    let sound = audit(tables);
-    let fits = row_fits(first, row.len());
-    if !sound {
-        return Answer {
-            outcome: Outcome::Refused(Status::FileCorruptError),
-            granted: 0,
-        };
+    let Some(tables) = tables.as_array::<TABLES_SIZE>() else {
+        return CORRUPT;
+    };
+    if !audit(tables) {
+        return CORRUPT;
     }
-    if !fits {
+    if !row_fits(first, row.len()) {
         return Answer {
             outcome: Outcome::Refused(Status::InvalidParameter),
             granted: 0,
         };
     }
-    let mut n = first;
-    let mut at = 0;
-    while at < row.len() {
-        let next = n + 1;
+    for i in 0..row.len() / BLOCK_SIZE {
+        let at = BLOCK_SIZE * i;
         let end = at + BLOCK_SIZE;
-        write_block(tables, n, &mut row[at..end]);
-        n = next;
-        at = end;
+        write_part(tables, first + i as u32, &mut row[at..end]);
     }
     Answer {
         outcome: Outcome::Done,

@@ -6,3 +6,4 @@ pub mod Fits
 pub mod Puts
 pub mod Calls
 pub mod Evaluate
+pub mod Places

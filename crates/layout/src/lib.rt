@@ -5,6 +5,8 @@
 ghost use Rattle.std.specs.Prelude.{◌≡◌};
 ghost use Rattle.layout.specs.Kinds.{kind_of, kind_number, mark_number};
 
+pub mod places;
+
 use records::FileType;
 use records::sizes::{
     ACCOUNTS, FILE_NAME_LIMIT, FILE_SLOTS, LINK_SLOTS, OPEN_SLOTS, STREAM_NAME_LIMIT, STREAM_SLOTS,
@@ -46,18 +48,22 @@ pub const OPENS_AT: usize = STREAMS_AT + STREAM_SIZE * STREAM_SLOTS;
 // all of it
 pub const TABLES_SIZE: usize = OPENS_AT + OPEN_SIZE * OPEN_SLOTS;
 
+// The lent bytes of the tables: as many as the tables have.
+pub type TableBytes = [u8; TABLES_SIZE];
+
+// The kind and the mark by their numbers. They are functions: `From` and the type of the kind are of other crates.
+#[tactic(auto, unfolding(crate::specs::Kinds::kind_of), using(crate::proofs::Tests::directory_kind))]
 pub fn kind_of(n: u16) -> FileType
     ensures { result ≡ kind_of n }
 {
-    if n == 0 {
-        return FileType::Unused;
+    match n {
+        0 => FileType::Unused,
+        1 => FileType::Data,
+        _ => FileType::Directory,
     }
-    if n == 1 {
-        return FileType::Data;
-    }
-    FileType::Directory
 }
 
+#[tactic(auto, unfolding(crate::specs::Kinds::kind_number))]
 pub fn kind_number(t: FileType) -> u16
     ensures { result ≡ kind_number t }
 {
@@ -68,8 +74,9 @@ pub fn kind_number(t: FileType) -> u16
     }
 }
 
+#[tactic(auto, unfolding(crate::specs::Kinds::mark_number))]
 pub fn mark_number(mark: bool) -> u16
     ensures { result ≡ mark_number mark }
 {
-    if mark { 1 } else { 0 }
+    u16::from(mark)
 }

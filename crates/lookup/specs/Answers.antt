@@ -1,27 +1,20 @@
 -- What the definitions answer, as the code's answers.
-use Rattle.base.specs.Base.{ℕ, Bool, List, Option, none, some, Namespace, Checked, refused, passed, refuse, ◌>>=◌, FileNo, LinkNo}
+use Rattle.base.specs.Base.{ℕ, Bool, List, Option, none, some, Namespace, Checked, passed, ◌>>=◌, FileNo, LinkNo}
 use Rattle.components.specs.Positions.{parents_of}
 use Rattle.paths.specs.{Paths.{Path, Leaf, no_leaf}, Positions.{as_leaf, as_path}, declared.{LeafParts.LeafParts, ParsedPath.{ParsedPath, TheVariants.{Invalid, Root, Named}}}}
-use Rattle.lookup.specs.{Lookup.{find_link, descend, Place, found, missing, found_root, locate}, declared.{FoundLink.{FoundLink, TheVariants.{At, Missing}}, Located.Located, Walked.Walked}}
+use Rattle.lookup.specs.{Lookup.{find_link, descend, Place, found, missing, found_root, locate}, declared.{Located.Located, Walked.Walked}}
 use Rattle.lookup.specs.declared.Walked.TheVariants as End
 
--- what the search for a name finds
-unfoldable pub found_link : Option LinkNo → FoundLink
-found_link none = Missing
-found_link (some l) = At l
-
 -- the walk's last step, in the directory that it came to
-unfoldable pub last_step : FileNo → FoundLink → Walked
-last_step dir Missing = End.Missing dir
-last_step dir (At l) = End.Link l
-
-unfoldable pub walk_ends : Namespace → Bool → List ℕ → Checked FileNo → Walked
-walk_ends ns fold name (refused r) = End.Refused r.status
-walk_ends ns fold name (passed dir) = last_step dir (found_link (find_link ns fold dir name))
+unfoldable pub last_step : FileNo → Option LinkNo → Walked
+last_step dir none = End.Missing dir
+last_step dir (some l) = End.Link l
 
 -- the walk from a directory through the components before the last, and the last component's name
-unfoldable pub walked_from : Namespace → Bool → FileNo → List (List ℕ) → List ℕ → Walked
-walked_from ns fold dir parents name = walk_ends ns fold name (descend ns fold dir parents)
+unfoldable pub walked_from : Namespace → Bool → FileNo → List (List ℕ) → List ℕ → Checked Walked
+walked_from ns fold from parents name = do
+  dir ← descend ns fold from parents
+  passed (last_step dir (find_link ns fold dir name))
 
 -- the path that its last component's places stand for
 abbrev pub path_to : List ℕ → LeafParts → Path
@@ -40,8 +33,7 @@ locate_parsed ns fold path parsed = do
   locate ns fold p
 
 -- the code's answer, as the definition's: the names that are missing are the last component's
-unfoldable pub as_place : Leaf → Located → Checked Place
-as_place leaf Located.Root = passed found_root
-as_place leaf (Located.Found l f) = passed (found (record { link = some l; file = f }))
-as_place leaf (Located.Missing dir) = passed (missing dir leaf)
-as_place leaf (Located.Refused s) = refuse s
+unfoldable pub as_place : Leaf → Located → Place
+as_place leaf Located.Root = found_root
+as_place leaf (Located.Found l f) = found (record { link = some l; file = f })
+as_place leaf (Located.Missing dir) = missing dir leaf

@@ -1,16 +1,18 @@
 // The walk through a path's components (step 6).
-ghost use Rattle.std.specs.Prelude.{◌≡◌, length};
+ghost use Rattle.std.specs.Prelude.{◌≡◌};
 ghost use Rattle.records.specs.Slots.{root};
 ghost use Rattle.records.specs.Namespace.{namespace};
+ghost use Rattle.records.specs.Checked.{as_checked};
 ghost use Rattle.components.specs.Positions.{part_of, parents_of};
 ghost use Rattle.paths.specs.Positions.{as_leaf};
-ghost use Rattle.layout.specs.Layout.{tables_size, decode};
+ghost use Rattle.layout.specs.Layout.{decode};
 ghost use Rattle.lookup.specs.Lookup.{locate};
 ghost use Rattle.lookup.specs.Answers.{walked_from, as_place, path_to, leaf_names, locate_parsed};
 
 use crate::links::find_link;
-use crate::{FoundLink, Located, Walked};
+use crate::{Located, Walked};
 use components::{Part, part_of, units_before};
+use layout::TableBytes;
 use path_reader::read_component;
 use paths::{LeafParts, ParsedPath};
 use records::slots::is_directory;
@@ -20,9 +22,8 @@ use records_links::read_link_file;
 
 // From the root through the components before `last`, each a directory, to the link that the directory has for `last`.
 // A file that is marked ends the walk, whatever its kind; a file number past its table is no directory, and has no mark.
-fn walk_path(b: &[u8], path: &[u16], last: Part, fold: bool) -> Walked
-    requires { length b.now ≡ tables_size }
-    ensures { result ≡ walked_from (namespace (decode b.now).volume) fold root (parents_of path.now last) (part_of path.now last) }
+fn walk_path(b: &TableBytes, path: &[u16], last: Part, fold: bool) -> Result<Walked, Status>
+    ensures { as_checked (λ w. w) result ≡ walked_from (namespace (decode b.now).volume) fold root (parents_of path.now last) (part_of path.now last) }
 {
     let parents = units_before(path, last.start);
     let mut dir = FileNo(0);
@@ -33,59 +34,57 @@ fn walk_path(b: &[u8], path: &[u16], last: Part, fold: bool) -> Walked
         let name = if is_last { last } else { part };
         let found = find_link(b, dir, part_of(path, name), fold);
         if is_last {
-            break 'components match found {
-                FoundLink::At(link) => Walked::Link(link),
-                FoundLink::Missing => Walked::Missing(dir),
-            };
+            break 'components Ok(match found {
+                Some(link) => Walked::Link(link),
+                None => Walked::Missing(dir),
+            });
         }
-        let FoundLink::At(link) = found else {
-            return Walked::Refused(Status::ObjectPathNotFound);
+        let Some(link) = found else {
+            return Err(Status::ObjectPathNotFound);
         };
-        let file = read_link_file(b, link);
-        let marked = read_file_mark(b, file);
-        if marked {
-            break 'components Walked::Refused(Status::DeletePending);
+        let next = read_link_file(b, link);
+        if read_file_mark(b, next) {
+            break 'components Err(Status::DeletePending);
         }
-        if !is_directory(read_file_type(b, file)) {
-            break 'components Walked::Refused(Status::ObjectPathNotFound);
+        if !is_directory(read_file_type(b, next)) {
+            break 'components Err(Status::ObjectPathNotFound);
         }
-        dir = file;
+        dir = next;
         at = part.end;
     }
 }
 
 // Where a path with a last component leads; without a name it is the root's. A marked file is refused here too.
-fn locate_leaf(b: &[u8], path: &[u16], leaf: LeafParts, fold: bool) -> Located
-    requires { length b.now ≡ tables_size }
-    ensures { as_place (as_leaf path.now leaf) result ≡ locate (namespace (decode b.now).volume) fold (path_to path.now leaf) }
+fn locate_leaf(b: &TableBytes, path: &[u16], leaf: LeafParts, fold: bool) -> Result<Located, Status>
+    ensures { as_checked (as_place (as_leaf path.now leaf)) result ≡ locate (namespace (decode b.now).volume) fold (path_to path.now leaf) }
 {
-    let last = leaf.file;
-    let name = part_of(path, last);
-    if name.len() == 0 {
-        return Located::Root;
+    if part_of(path, leaf.file).is_empty() {
+        return Ok(Located::Root);
     }
-    let walked = walk_path(b, path, last, fold);
-    match walked {
+    match walk_path(b, path, leaf.file, fold)? {
         Walked::Link(link) => {
             let file = read_link_file(b, link);
             if read_file_mark(b, file) {
-                return Located::Refused(Status::DeletePending);
+                return Err(Status::DeletePending);
             }
-            Located::Found(link, file)
+            Ok(Located::Found(link, file))
         }
-        Walked::Missing(dir) => Located::Missing(dir),
-        Walked::Refused(status) => Located::Refused(status),
+        Walked::Missing(dir) => Ok(Located::Missing(dir)),
     }
 }
 
 // Where a parsed path leads. An invalid one keeps its refusal.
-pub fn locate(b: &[u8], path: &[u16], parsed: ParsedPath, fold: bool) -> Located
-    requires { length b.now ≡ tables_size }
-    ensures { as_place (leaf_names path.now parsed) result ≡ locate_parsed (namespace (decode b.now).volume) fold path.now parsed }
+pub fn locate(
+    b: &TableBytes,
+    path: &[u16],
+    parsed: ParsedPath,
+    fold: bool,
+) -> Result<Located, Status>
+    ensures { as_checked (as_place (leaf_names path.now parsed)) result ≡ locate_parsed (namespace (decode b.now).volume) fold path.now parsed }
 {
     match parsed {
-        ParsedPath::Invalid => Located::Refused(Status::ObjectNameInvalid),
-        ParsedPath::Root => Located::Root,
+        ParsedPath::Invalid => Err(Status::ObjectNameInvalid),
+        ParsedPath::Root => Ok(Located::Root),
         ParsedPath::Named(leaf) => locate_leaf(b, path, leaf, fold),
     }
 }

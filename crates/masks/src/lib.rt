@@ -1,5 +1,5 @@
-// Access masks, one for each account, in a lent slice: whether they are valid, and whether all are zero. A slice of any
-// other length is neither.
+// Access masks, one for each account, in a lent slice: whether they are valid, and whether all are zero. A slice of
+// any other length is neither.
 #![tactic(auto)]
 
 ghost use Rattle.std.specs.Prelude.{◌≡◌, replicate};
@@ -14,32 +14,12 @@ use records::sizes::ACCOUNTS;
 pub fn valid_masks(masks: &[u32]) -> bool
     ensures { result ≡ valid_masks masks.now }
 {
-    if masks.len() != ACCOUNTS {
-        return false;
-    }
-    let mut account = 0;
-    while account < ACCOUNTS {
-        if !bits::within(masks[account], ALL_ACCESS) {
-            return false;
-        }
-        account += 1;
-    }
-    true
+    masks.len() == ACCOUNTS && masks.iter().all(|m| bits::within(*m, ALL_ACCESS))
 }
 
 // Whether each mask is zero, as in a free slot.
 pub fn zero_masks(masks: &[u32]) -> bool
     ensures { result ≡ same masks.now (replicate accounts 0) }
 {
-    if masks.len() != ACCOUNTS {
-        return false;
-    }
-    let mut i = 0;
-    while i < ACCOUNTS {
-        if masks[i] != 0 {
-            return false;
-        }
-        i += 1;
-    }
-    true
+    masks == [0; ACCOUNTS].as_slice()
 }

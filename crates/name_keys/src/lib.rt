@@ -21,27 +21,24 @@ const HIGH: [u16; FILE_NAME_LIMIT] = [
 ];
 
 // A unit's bytes, with a weight for each.
+#[tactic(auto, unfolding(crate::specs::NameKeys::weighed), using(crate::proofs::Weights::byte_bound))]
 fn weigh(unit: u16, low: u16, high: u16) -> u32
     ensures { (result ≡ weighed unit low high) × (result ≤ 33422850) }
 {
     (unit % 256) as u32 * low as u32 + (unit / 256) as u32 * high as u32
 }
 
-// The key of a stored name, by all its places; a list of another length has none. A zero adds nothing, so that the places
-// after the last unit do not count.
+// The key of a stored name, by all its places; a list of another length has none. A zero adds nothing, so that the
+// places after the last unit do not count.
 pub fn name_key(number: u16, name: &[u16]) -> u64
     ensures { result ≡ stored_key number name.now }
 {
     if name.len() != FILE_NAME_LIMIT {
         return 0;
     }
-    let low = LOW;
-    let high = HIGH;
     let mut sum: u32 = 0;
-    let mut i: usize = 0;
-    while i < name.len() {
-        sum = sum + weigh(name[i], low[i], high[i]);
-        i += 1;
+    for (i, unit) in name.iter().enumerate() {
+        sum += weigh(*unit, LOW[i], HIGH[i]);
     }
     number as u64 * 0x1_0000_0000 + sum as u64 + 1
 }

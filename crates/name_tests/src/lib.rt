@@ -1,5 +1,5 @@
-// The tests of a name in a used slot. Each goes through all places without a branch on a unit, so that it is compiled to
-// instructions that take eight of them at once. A name is lent, whatever its places.
+// The tests of a name in a used slot. Each goes through all places without a branch on a unit, so that it is compiled
+// to instructions that take eight of them at once. A name is lent, whatever its places.
 #![tactic(auto)]
 
 ghost use Rattle.std.specs.Prelude.{◌≡◌, cond, ◌||◌, ◌∷◌, [], eqb};
@@ -21,9 +21,9 @@ fn if_some(unit: u16, number: u16) -> u16
     if unit == 0 { 0 } else { number }
 }
 
-// Whether a name has no more places than a record, and every place after the last unit is zero. The first odd numbers add
-// up to the square of how many they are, and any others to more: so the odd numbers of the places that are not zero tell
-// whether these come first.
+// Whether a name has no more places than a record, and every place after the last unit is zero. The first odd numbers
+// add up to the square of how many they are, and any others to more: so the odd numbers of the places that are not zero
+// tell whether these come first.
 fn well_stored(name: &[u16]) -> bool
     ensures { result ≡ fits_stored name.now }
 {
@@ -32,13 +32,9 @@ fn well_stored(name: &[u16]) -> bool
     }
     let mut count: u16 = 0;
     let mut sum: u16 = 0;
-    let mut i: usize = 0;
-    while i < name.len() {
-        let unit = name[i];
-        let odd = 2 * i as u16 + 1;
-        count = count + if_some(unit, 1);
-        sum = sum + if_some(unit, odd);
-        i += 1;
+    for (i, unit) in name.iter().enumerate() {
+        count += if_some(*unit, 1);
+        sum += if_some(*unit, 2 * i as u16 + 1);
     }
     sum == count * count
 }
@@ -54,10 +50,8 @@ fn zeros_or_valid(name: &[u16], kind: NameKind) -> bool
     ensures { result ≡ all (zero_or_valid kind) name.now }
 {
     let mut valid = true;
-    let mut i: usize = 0;
-    while i < name.len() {
-        valid = valid & zero_or_valid(name[i], kind);
-        i += 1;
+    for unit in name {
+        valid &= zero_or_valid(*unit, kind);
     }
     valid
 }
@@ -69,11 +63,11 @@ fn is_dots(name: &[u16]) -> bool
     if unit_at(name, 0) != DOT {
         return false;
     }
-    let second = unit_at(name, 1);
-    if second == 0 {
-        return true;
+    match unit_at(name, 1) {
+        0 => true,
+        DOT => unit_at(name, 2) == 0,
+        _ => false,
     }
-    second == DOT && unit_at(name, 2) == 0
 }
 
 pub fn good_file_name(name: &[u16]) -> bool

@@ -1,40 +1,29 @@
 -- Laws of valid units and names, as the code tests them.
-use Rattle.base.{specs.Base.{ℕ, suc, ◌≤◌, ◌<◌, ◌≡◌, Bool, true, false, not, ◌&&◌, ◌||◌, List, [], ◌∷◌, eqb, leb, ltb, length, get_or, all, any, is_empty, one_of, same}, proofs.Laws.{refl, sym, arith, by_cases, le-leb, lt-leb, leb_iff, refuted, not_both, and_left, and_right, empty_length, eq-eqb, ne_eqb, same-lengths}}
+use Rattle.base.{specs.Base.{ℕ, suc, ◌≤◌, ◌<◌, ◌≡◌, Bool, true, false, not, ◌&&◌, ◌||◌, List, [], ◌∷◌, eqb, leb, ltb, length, all, any, is_empty, one_of, same}, proofs.Laws.{refl, sym, ap, arith, by_cases, le-leb, lt-leb, leb_iff, refuted, not_both, and_left, and_right, empty_length, ne_eqb}}
 use borrow.Author.Tests.{leb-false, lt-ltb}
 use mathlib.Core.Bool.{and-true, or-false}
+use Rattle.std.specs.{Cmp.Lexicographic.{pointwise}, List.{list_all}}
 use Rattle.units.specs.Units.{backslash, colon, dot, forbidden}
 use Rattle.names.specs.{Names.{lowest_unit, valid_unit, valid_units, valid_file_name}, declared.NameKind.{NameKind, TheVariants.{FileName, StreamName}}}
+
+-- the library's test of each element, and its comparison of two lists, are those of the definitions
+
+pub all_listed : {A : Type 0} (p : A → Bool) (xs : List A) → list_all p xs ≡ all p xs
+unfolding all
+all_listed p [] = refl
+all_listed p (x ∷ xs) = ap (λ (b : Bool). p x && b) (all_listed p xs)
+
+pub same_pointwise : (xs ys : List ℕ) → pointwise eqb xs ys ≡ same xs ys
+unfolding same
+same_pointwise [] [] = refl
+same_pointwise [] (y ∷ ys) = refl
+same_pointwise (x ∷ xs) [] = refl
+same_pointwise (x ∷ xs) (y ∷ ys) = ap (λ (b : Bool). eqb x y && b) (same_pointwise xs ys)
 
 -- `.` and `..`
 
 abbrev pub dots : List ℕ → Bool
 dots n = same n (dot ∷ []) || same n (dot ∷ dot ∷ [])
-
-pub dots_one : (n : List ℕ) → length n ≡ 1 → eqb (get_or n 0 0) dot ≡ dots n
-unfolding same
-dots_one [] h = absurd (omega arith)
-dots_one (x ∷ []) h = go (eqb x dot)
-  where
-    go : (b : Bool) → b ≡ (b && true || b && false)
-    go true = refl
-    go false = refl
-dots_one (x ∷ y ∷ n) h = absurd (omega arith)
-
-pub dots_two : (n : List ℕ) → length n ≡ 2 → (eqb (get_or n 0 0) dot && eqb (get_or n 1 0) dot) ≡ dots n
-unfolding same
-dots_two [] h = absurd (omega arith)
-dots_two (x ∷ []) h = absurd (omega arith)
-dots_two (x ∷ y ∷ []) h = go (eqb x dot) (eqb y dot)
-  where
-    go : (b d : Bool) → (b && d) ≡ (b && false || b && (d && true))
-    go true true = refl
-    go true false = refl
-    go false true = refl
-    go false false = refl
-dots_two (x ∷ y ∷ z ∷ n) h = absurd (omega arith)
-
-pub dots_none : (n : List ℕ) → (length n ≡ 1 → ⊥) → (length n ≡ 2 → ⊥) → dots n ≡ false
-dots_none n one two = rw (same-lengths n (dot ∷ []) one, same-lengths n (dot ∷ dot ∷ []) two)
 
 -- no name has a unit 0
 
@@ -97,10 +86,6 @@ module _ (limit : ℕ) (n : List ℕ) where
 
   pub file_name_long : limit < length n → valid_file_name limit n ≡ false
   file_name_long h = refuted _ (λ v. not_both (file_name_units v) (units-long FileName limit n h))
-
-  pub file_name_empty : length n ≡ 0 → valid_file_name limit n ≡ false
-  unfolding valid_file_name
-  file_name_empty e = rw (← empty_length n, eq-eqb (length n) 0 e)
 
   pub file_name_dots : dots n ≡ true → valid_file_name limit n ≡ false
   unfolding valid_file_name

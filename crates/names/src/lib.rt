@@ -19,6 +19,7 @@ pub enum NameKind {
 }
 
 // The lowest unit of a name: control units, 1 to 31, stand in stream names alone, and unit 0 in none.
+#[tactic(auto, unfolding(crate::specs::Names::lowest_unit))]
 fn lowest_unit(kind: NameKind) -> u16
     ensures { result ≡ lowest_unit kind }
 {
@@ -29,6 +30,7 @@ fn lowest_unit(kind: NameKind) -> u16
 }
 
 // Whether a unit may stand in a name: not below its lowest, none of `" * / < > ? |`, neither colon nor backslash.
+#[tactic(auto, unfolding(crate::specs::Names::valid_unit, lists::specs::Lists::one_of, lists::specs::Lists::any))]
 pub fn valid_unit(unit: u16, kind: NameKind) -> bool
     ensures { result ≡ valid_unit kind unit }
 {
@@ -48,44 +50,25 @@ pub fn valid_unit(unit: u16, kind: NameKind) -> bool
 fn valid_units(name: &[u16], kind: NameKind, limit: usize) -> bool
     ensures { result ≡ valid_units kind limit name.now }
 {
-    if limit < name.len() {
-        return false;
-    }
-    let mut i = 0;
-    while i < name.len() {
-        if !valid_unit(name[i], kind) {
-            return false;
-        }
-        i += 1;
-    }
-    true
+    name.len() <= limit && name.iter().all(|unit| valid_unit(*unit, kind))
 }
 
 // Whether a name is `.` or `..`.
+#[tactic(auto, using(crate::proofs::ValidNames::same_pointwise))]
 fn is_dots(name: &[u16]) -> bool
     ensures { result ≡ (same name.now (dot ∷ []) || same name.now (dot ∷ dot ∷ [])) }
 {
-    if name.len() == 1 {
-        return name[0] == DOT;
-    }
-    if name.len() == 2 {
-        return name[0] == DOT && name[1] == DOT;
-    }
-    false
+    name == [DOT].as_slice() || name == [DOT, DOT].as_slice()
 }
 
+#[tactic(auto, unfolding(crate::specs::Names::valid_file_name), using(base::proofs::Laws::empty_length))]
 pub fn valid_file_name(name: &[u16]) -> bool
     ensures { result ≡ valid_file_name file_name_limit name.now }
 {
-    if name.len() == 0 {
-        return false;
-    }
-    if is_dots(name) {
-        return false;
-    }
-    valid_units(name, NameKind::FileName, FILE_NAME_LIMIT)
+    !name.is_empty() && !is_dots(name) && valid_units(name, NameKind::FileName, FILE_NAME_LIMIT)
 }
 
+#[tactic(auto, unfolding(crate::specs::Names::valid_stream_name))]
 pub fn valid_stream_name(name: &[u16]) -> bool
     ensures { result ≡ valid_stream_name stream_name_limit name.now }
 {

@@ -6,34 +6,21 @@
 // nothing. No other row has an open.
 #![tactic(auto)]
 
-ghost use Rattle.std.specs.Prelude.{◌≡◌, length};
-ghost use Rattle.layout.specs.Layout.{tables_size};
+ghost use Rattle.std.specs.Prelude.{◌≡◌};
 
-use layout::TABLES_SIZE;
+use layout::{TABLES_SIZE, TableBytes};
 use open_rows::{change_row, conflict_on, find_open};
-use open_table::OpenSlot;
 use records::slots::ZERO_OPEN;
-use records::{FileNo, Handle, Open, StreamNo};
+use records::{FileNo, Handle, Open, StreamNo, Terms};
 use records_opens::write_open;
 use std::io;
 
-fn say(rt: &impl Print, text: &[u8]) -> io::Result<()> {
-    rt.write_all(text)
+fn answer(rt: &impl Print, name: &str, holds: bool) -> io::Result<()> {
+    let word = if holds { "yes" } else { "no" };
+    println!(rt; "{name}: {word}")
 }
 
-fn answer(rt: &impl Print, name: &[u8], holds: bool) -> io::Result<()> {
-    say(rt, name)?;
-    if holds {
-        say(rt, b": yes\n")
-    } else {
-        say(rt, b": no\n")
-    }
-}
-
-fn put(b: &mut [u8], row: usize, handle: u64, stream: u16, granted: u32, share: u32)
-    requires { length b.old ≡ tables_size }
-    ensures { length b.new ≡ tables_size }
-{
+fn put(b: &mut TableBytes, row: usize, handle: u64, stream: u16, granted: u32, share: u32) {
     write_open(
         b,
         row,
@@ -48,10 +35,7 @@ fn put(b: &mut [u8], row: usize, handle: u64, stream: u16, granted: u32, share: 
     );
 }
 
-fn put_all(b: &mut [u8])
-    requires { length b.old ≡ tables_size }
-    ensures { length b.new ≡ tables_size }
-{
+fn put_all(b: &mut TableBytes) {
     put(b, 0, 7, 3, 0x1, 7);
     put(b, 1, 0, 5, 0x1_0003, 0);
     put(b, 2, 9, 4, 0x2, 1);
@@ -62,94 +46,83 @@ fn put_all(b: &mut [u8])
 
 fn conflict(
     rt: &impl Print,
-    b: &[u8],
-    name: &[u8],
+    b: &TableBytes,
+    name: &str,
     stream: u16,
     granted: u32,
     share: u32,
-) -> io::Result<()>
-    requires { length b.now ≡ tables_size }
-{
-    answer(rt, name, conflict_on(b, StreamNo(stream), granted, share))
+) -> io::Result<()> {
+    answer(
+        rt,
+        name,
+        conflict_on(b, StreamNo(stream), Terms { granted, share }),
+    )
 }
 
-fn conflicts(rt: &impl Print, b: &[u8]) -> io::Result<()>
-    requires { length b.now ≡ tables_size }
-{
-    conflict(rt, b, b"reads where all is shared", 3, 0x1, 7)?;
+fn conflicts(rt: &impl Print, b: &TableBytes) -> io::Result<()> {
+    conflict(rt, b, "reads where all is shared", 3, 0x1, 7)?;
     conflict(
         rt,
         b,
-        b"writes and deletes where all is shared",
+        "writes and deletes where all is shared",
         3,
         0x1_0002,
         7,
     )?;
-    conflict(rt, b, b"does not share the reading", 3, 0x2, 6)?;
-    conflict(rt, b, b"writes where writing is not shared", 4, 0x2, 7)?;
+    conflict(rt, b, "does not share the reading", 3, 0x2, 6)?;
+    conflict(rt, b, "writes where writing is not shared", 4, 0x2, 7)?;
     conflict(
         rt,
         b,
-        b"deletes where deleting is not shared",
+        "deletes where deleting is not shared",
         4,
         0x1_0000,
         7,
     )?;
-    conflict(rt, b, b"reads where reading is shared", 4, 0x1, 7)?;
-    conflict(rt, b, b"does not share the writing", 4, 0x1, 1)
+    conflict(rt, b, "reads where reading is shared", 4, 0x1, 7)?;
+    conflict(rt, b, "does not share the writing", 4, 0x1, 1)
 }
 
-fn quiet_conflicts(rt: &impl Print, b: &[u8]) -> io::Result<()>
-    requires { length b.now ≡ tables_size }
-{
-    conflict(rt, b, b"not counted, and shares nothing", 4, 0x80, 0)?;
+fn quiet_conflicts(rt: &impl Print, b: &TableBytes) -> io::Result<()> {
+    conflict(rt, b, "not counted, and shares nothing", 4, 0x80, 0)?;
     conflict(
         rt,
         b,
-        b"on a stream of an open that is not counted",
+        "on a stream of an open that is not counted",
         6,
         0x1_0003,
         0,
     )?;
-    conflict(rt, b, b"on a stream of a free row", 5, 0x1_0003, 0)?;
-    conflict(rt, b, b"on a stream of no row", 9, 0x1_0003, 0)?;
-    conflict(rt, b, b"on the stream of the last row", 8, 0x1, 7)
+    conflict(rt, b, "on a stream of a free row", 5, 0x1_0003, 0)?;
+    conflict(rt, b, "on a stream of no row", 9, 0x1_0003, 0)?;
+    conflict(rt, b, "on the stream of the last row", 8, 0x1, 7)
 }
 
-fn row_is(slot: OpenSlot, n: usize) -> bool {
-    match slot {
-        OpenSlot::At(row) => row == n,
-        OpenSlot::Full => false,
-    }
-}
-
-fn handles(rt: &impl Print, b: &[u8]) -> io::Result<()>
-    requires { length b.now ≡ tables_size }
-{
+fn handles(rt: &impl Print, b: &TableBytes) -> io::Result<()> {
     answer(
         rt,
-        b"handle in the first row",
-        row_is(find_open(b, Handle(7)), 0),
+        "handle in the first row",
+        find_open(b, Handle(7)) == Some(0),
     )?;
     answer(
         rt,
-        b"handle of two rows in the lower one",
-        row_is(find_open(b, Handle(9)), 2),
+        "handle of two rows in the lower one",
+        find_open(b, Handle(9)) == Some(2),
     )?;
     answer(
         rt,
-        b"handle in the last row",
-        row_is(find_open(b, Handle(20)), 255),
+        "handle in the last row",
+        find_open(b, Handle(20)) == Some(255),
     )?;
     answer(
         rt,
-        b"handle 0 in a free row",
-        row_is(find_open(b, Handle(0)), 1),
+        "handle 0 in a free row",
+        find_open(b, Handle(0)) == Some(1),
     )?;
     answer(
         rt,
-        b"handle of no open in a row",
-        row_is(find_open(b, Handle(5)), 5),
+        "handle of no open in a row",
+        find_open(b, Handle(5)) == Some(5),
     )
 }
 
@@ -164,29 +137,23 @@ fn new_open() -> Open {
     }
 }
 
-fn row_changes(rt: &impl Print, b: &[u8]) -> io::Result<()>
-    requires { length b.now ≡ tables_size }
-{
+fn row_changes(rt: &impl Print, b: &TableBytes) -> io::Result<()> {
     let o = new_open();
     let stored = change_row(b, 5, o);
+    answer(rt, "a row has the open stored there", stored.handle.0 == 30)?;
     answer(
         rt,
-        b"a row has the open stored there",
-        stored.handle.0 == 30,
-    )?;
-    answer(
-        rt,
-        b"the open stored there deletes on close",
+        "the open stored there deletes on close",
         stored.delete_on_close,
     )?;
     answer(
         rt,
-        b"past the end the open is answered",
+        "past the end the open is answered",
         change_row(b, 256, o).handle.0 == 30,
     )?;
     answer(
         rt,
-        b"a row that is freed has handle 0",
+        "a row that is freed has handle 0",
         change_row(b, 2, ZERO_OPEN).handle.0 == 0,
     )
 }

@@ -1,10 +1,10 @@
 -- What a decided open stands for (the sharing check and step 12).
 use Rattle.std.specs.Prelude.{◌∷◌}
-use Rattle.base.specs.Base.{ℕ, cond, List, [], is_empty, Namespace, BareStream, Checked, passed, refuse, Data, StreamNo}
+use Rattle.base.specs.Base.{ℕ, cond, List, [], is_empty, Namespace, BareStream, as_option, Data, StreamNo}
 use Rattle.components.specs.Positions.{part_of}
 use Rattle.store.specs.Complete.{Placed, Decision, with_attributes, stream_new, link_new, place_file, attribute_change}
 use Rattle.tables.specs.Tables.{file_at}
-use Rattle.open_steps.specs.{Pendings.{terms_over, as_attributes, as_file}, declared.{StreamToAdd.StreamToAdd, FileToAdd.FileToAdd, FileSlots.FileSlots, PlacedOpen.PlacedOpen, AcceptedOpen.AcceptedOpen, DecidedOpen.{DecidedOpen, TheVariants.{Refused, Accepted}}}}
+use Rattle.open_steps.specs.{Pendings.as_file, declared.{StreamToAdd.StreamToAdd, FileToAdd.FileToAdd, FileSlots.FileSlots, PlacedOpen.PlacedOpen, AcceptedOpen.AcceptedOpen}}
 use Rattle.open_steps.specs.declared.PlacedOpen.TheVariants as Place
 
 -- a stream added to a file
@@ -30,7 +30,7 @@ streams_added path f at =
 
 unfoldable pub as_placed : Namespace → List ℕ → PlacedOpen → Placed
 as_placed ns path (Place.Existing f s a) =
-    record { change = attribute_change ns f (as_attributes a); file = f; stream = s }
+    record { change = attribute_change ns f (as_option a); file = f; stream = s }
 as_placed ns path (Place.NewStream s n) = placed_stream ns path s n
 as_placed ns path (Place.NewFile f at) =
     place_file (at.file, as_file ns.files f) (at.link, link_new f.dir (part_of path f.leaf.file) at.file)
@@ -41,11 +41,7 @@ as_accepted ns path a =
     record {
       action = a.action;
       placed = as_placed ns path a.placed;
-      terms = terms_over a.granted a.share;
+      terms = a.terms;
       handle = a.handle;
       delete_on_close = a.delete_on_close;
     }
-
-unfoldable pub as_decision : Namespace → List ℕ → DecidedOpen → Checked Decision
-as_decision ns path (Refused s) = refuse s
-as_decision ns path (Accepted a) = passed (as_accepted ns path a)

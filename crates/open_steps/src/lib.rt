@@ -1,28 +1,20 @@
-// What the steps of an open hand to each other: the target found, the open admitted, the open decided. Each is a refusal or
-// goes on. `specs/` says what each stands for.
+// What the steps of an open hand to each other: the target found, the open admitted, the open decided. A step that refuses
+// answers a status in its place. `specs/` says what each stands for.
 #![tactic(auto)]
 
 use paths::LeafParts;
-use records::{CreateAction, FileNo, FileType, Handle, LinkNo, Status, StreamNo};
+use records::{CreateAction, FileNo, FileType, Handle, LinkNo, StreamNo, Terms};
 
-// The link that names a file where a path leads to it. The root has none.
-#[derive(Clone, Copy)]
-pub enum NamedBy {
-    Nothing,
-    Link(LinkNo),
-}
-
-// A file that a path leads to.
+// A file that a path leads to, and the link that names it there. The root has none.
 #[derive(Clone, Copy)]
 pub struct FoundFile {
-    pub link: NamedBy,
+    pub link: Option<LinkNo>,
     pub file: FileNo,
 }
 
-// Steps 1 to 8: a stream that is there, what is missing, or a refusal.
+// Steps 1 to 8: a stream that is there, or what is missing.
 #[derive(Clone, Copy)]
 pub enum FoundTarget {
-    Refused(Status),
     Directory(FoundFile, StreamNo),
     Stream(FoundFile, LeafParts, StreamNo),
     NoStream(FoundFile, LeafParts),
@@ -37,23 +29,15 @@ pub enum SharingRule {
     DeniedIfAlone,
 }
 
-// Whether an open gives its file new attributes.
-#[derive(Clone, Copy)]
-pub enum NewAttributes {
-    Kept,
-    Set(u32),
-}
-
-// An open of a stream that is there: it goes to the sharing check.
+// An open of a stream that is there: it goes to the sharing check. Its file's attributes become those that are there.
 #[derive(Clone, Copy)]
 pub struct ExistingOpen {
     pub file: FileNo,
     pub stream: StreamNo,
-    pub granted: u32,
-    pub share: u32,
+    pub terms: Terms,
     pub read_sharing: SharingRule,
     pub action: CreateAction,
-    pub attributes: NewAttributes,
+    pub attributes: Option<u32>,
 }
 
 // A stream to add to a file, whose attributes become these.
@@ -62,8 +46,7 @@ pub struct StreamToAdd {
     pub file: FileNo,
     pub leaf: LeafParts,
     pub attributes: u32,
-    pub granted: u32,
-    pub share: u32,
+    pub terms: Terms,
 }
 
 // A file to add to a directory, of which it copies the masks.
@@ -73,14 +56,12 @@ pub struct FileToAdd {
     pub leaf: LeafParts,
     pub file_type: FileType,
     pub attributes: u32,
-    pub granted: u32,
-    pub share: u32,
+    pub terms: Terms,
 }
 
 // Steps 9 to 11: an open that no step before the sharing check refuses reaches that check, or it has none.
 #[derive(Clone, Copy)]
 pub enum PendingOpen {
-    Refused(Status),
     Existing(ExistingOpen),
     NewStream(StreamToAdd),
     NewFile(FileToAdd),
@@ -98,26 +79,18 @@ pub struct FileSlots {
 // What an accepted open changes or adds, and where.
 #[derive(Clone, Copy)]
 pub enum PlacedOpen {
-    Existing(FileNo, StreamNo, NewAttributes),
+    Existing(FileNo, StreamNo, Option<u32>),
     NewStream(StreamToAdd, StreamNo),
     NewFile(FileToAdd, FileSlots),
 }
 
-// An accepted open, with the row that it takes.
+// An open that the sharing check and step 12 accept, with the row that it takes.
 #[derive(Clone, Copy)]
 pub struct AcceptedOpen {
     pub action: CreateAction,
     pub placed: PlacedOpen,
-    pub granted: u32,
-    pub share: u32,
+    pub terms: Terms,
     pub handle: Handle,
     pub delete_on_close: bool,
     pub row: usize,
-}
-
-// The sharing check and step 12.
-#[derive(Clone, Copy)]
-pub enum DecidedOpen {
-    Refused(Status),
-    Accepted(AcceptedOpen),
 }

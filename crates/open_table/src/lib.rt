@@ -1,57 +1,45 @@
 // The table of opens in the lent bytes: the lowest free row, and whether a file or a stream has an open.
 #![tactic(auto)]
 
-ghost use Rattle.std.specs.Prelude.{◌≡◌, length};
-ghost use Rattle.layout.specs.Layout.{tables_size, decode};
-ghost use Rattle.open_table.specs.Rows.{free_row, row_slot};
+ghost use Rattle.std.specs.Prelude.{◌≡◌};
+ghost use Rattle.records.specs.Checked.{as_option};
+ghost use Rattle.layout.specs.Layout.{decode};
+ghost use Rattle.open_table.specs.Rows.{free_row, HasOpen};
 ghost use Rattle.tables.specs.Tables.{file_has_open, stream_has_open};
 
+use layout::TableBytes;
 use records::sizes::OPEN_SLOTS;
 use records::{FileNo, StreamNo};
 use records_opens::{read_handle, read_open_file, read_open_stream};
 
-// What a search for a row finds: the lowest one, or, as `Full`, that there is none. A row has no number of its own kind:
-// handles come from elsewhere.
-#[derive(Clone, Copy)]
-pub enum OpenSlot {
-    At(usize),
-    Full,
+// The lowest free row. A row has no number of its own kind: handles come from elsewhere.
+pub fn free_open(b: &TableBytes) -> Option<usize>
+    ensures { as_option result ≡ free_row (decode b.now).opens.rows }
+{
+    (0..OPEN_SLOTS).find(|i| read_handle(b, *i).0 == 0)
 }
 
-pub fn free_open(b: &[u8]) -> OpenSlot
-    requires { length b.now ≡ tables_size }
-    ensures { row_slot result ≡ free_row (decode b.now).opens.rows }
+// Some open, counted or not, is in a row that is asked for. The handle is read only in those.
+fn has_open<F: Fn(usize) -> bool>(b: &TableBytes, asked: F) -> bool
+    requires { F.IsAlwaysCallable asked }
+    ensures { HasOpen (F.post asked) (decode b.now).opens.rows result }
 {
     for i in 0..OPEN_SLOTS {
-        if read_handle(b, i).0 == 0 {
-            return OpenSlot::At(i);
+        if asked(i) && read_handle(b, i).0 != 0 {
+            return true;
         }
     }
-    OpenSlot::Full
+    false
 }
 
-// Some open, counted or not, is on the file. The handle is read only where the file agrees.
-pub fn file_has_open(b: &[u8], f: FileNo) -> bool
-    requires { length b.now ≡ tables_size }
+pub fn file_has_open(b: &TableBytes, f: FileNo) -> bool
     ensures { result ≡ file_has_open (decode b.now).opens.rows f }
 {
-    for i in 0..OPEN_SLOTS {
-        if read_open_file(b, i).0 == f.0 && read_handle(b, i).0 != 0 {
-            return true;
-        }
-    }
-    false
+    has_open(b, |i| read_open_file(b, i) == f)
 }
 
-// The same of a stream.
-pub fn stream_has_open(b: &[u8], s: StreamNo) -> bool
-    requires { length b.now ≡ tables_size }
+pub fn stream_has_open(b: &TableBytes, s: StreamNo) -> bool
     ensures { result ≡ stream_has_open (decode b.now).opens.rows s }
 {
-    for i in 0..OPEN_SLOTS {
-        if read_open_stream(b, i).0 == s.0 && read_handle(b, i).0 != 0 {
-            return true;
-        }
-    }
-    false
+    has_open(b, |i| read_open_stream(b, i) == s)
 }

@@ -1,5 +1,6 @@
-// A reader of a path's components (step 6), which holds the lent units and its place. The functions over it are thin: each
-// takes the reader apart or puts it together, and `components::next_component` on units and place does the work.
+// A reader of a path's components (step 6), which holds the lent units and its place. The functions over it are thin:
+// each takes the reader apart or puts it together, and `components::next_component` on units and place does the work. It
+// is no `Iterator`: the laws of proofs/Order are about its steps (`reader_at`, `step_of`).
 #![tactic(auto)]
 
 ghost use Rattle.std.specs.Prelude.{◌≡◌};
@@ -36,16 +37,16 @@ pub fn next<'a>(reader: PathReader<'a>) -> Step<'a>
     Step {
         component,
         reader: PathReader {
-            units: reader.units,
             at: component.end,
+            ..reader
         },
     }
 }
 
-// The first component from `at` on, by a step of a reader. Its parameters are plain, so that callers need no walk by hand.
+// The first component from `at` on, by a step of a reader. Its parameters are plain, so that callers need no walk by
+// hand.
 pub fn read_component(path: &[u16], at: usize) -> Part
     ensures { result ≡ next_component path.now at }
 {
-    let s = next(reader_at(path, at));
-    s.component
+    next(reader_at(path, at)).component
 }

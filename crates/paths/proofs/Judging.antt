@@ -1,8 +1,8 @@
 -- Laws of step 4 on the values found: the last component judged, the components in order, the path whole.
-use Rattle.base.{specs.Base.{ℕ, ◌≤◌, ◌<◌, ◌≡◌, Bool, true, false, not, cond, ◌&&◌, List, [], ◌∷◌, ◌++◌, Option, none, some, length, file_name_limit, stream_name_limit, path_limit, Checked, refused, passed, refuse, ◌>>=◌, ◌>>◌, refuse_if, ObjectNameInvalid, is_empty}, proofs.Laws.{refl, ap, le-leb, lt-leb}}
+use Rattle.base.{specs.Base.{ℕ, ◌≤◌, ◌<◌, ◌≡◌, Bool, true, false, cond, ◌&&◌, List, [], ◌∷◌, ◌++◌, Option, none, some, length, file_name_limit, path_limit, Checked, refused, passed, refuse, ◌>>=◌, ◌>>◌, refuse_if, ObjectNameInvalid, is_empty}, proofs.Laws.{refl, ap, le-leb, lt-leb}}
 use mathlib.Core.List.{append-nil, append_assoc}
 use Rattle.components.specs.Components.{split, components}
-use Rattle.names.specs.Names.{valid_file_name, valid_stream_name}
+use Rattle.names.specs.Names.{valid_file_name}
 use Rattle.units.specs.Units.{backslash, colon}
 use Rattle.paths.specs.{Paths.{Leaf, no_leaf, Path, leaf_of, ends_in, valid_leaf, checked_leaf, parse_components, parse_path}, Positions.{named, checked}}
 
@@ -12,22 +12,6 @@ module _ (wants_directory : Bool) (l : Leaf) where
   pub leaf_file_bad : valid_file_name file_name_limit l.file ≡ false → valid_leaf wants_directory l ≡ false
   unfolding valid_leaf
   leaf_file_bad e = rw e
-
-  pub leaf_stream_bad : valid_stream_name stream_name_limit l.stream ≡ false → valid_leaf wants_directory l ≡ false
-  unfolding valid_leaf
-  leaf_stream_bad e = rw e (go (valid_file_name file_name_limit l.file))
-    where
-      go : (b : Bool) → (b && false && not (wants_directory && l.colon)) ≡ false
-      go true = refl
-      go false = refl
-
-  pub leaf_of_directory : valid_file_name file_name_limit l.file ≡ true → valid_stream_name stream_name_limit l.stream ≡ true → wants_directory ≡ true → not l.colon ≡ valid_leaf wants_directory l
-  unfolding valid_leaf
-  leaf_of_directory f s w = rw (f, s, w)
-
-  pub leaf_of_any : valid_file_name file_name_limit l.file ≡ true → valid_stream_name stream_name_limit l.stream ≡ true → wants_directory ≡ false → true ≡ valid_leaf wants_directory l
-  unfolding valid_leaf
-  leaf_of_any f s w = rw (f, s, w)
 
 abbrev leaf_in : Checked Path → Leaf
 leaf_in (refused r) = no_leaf

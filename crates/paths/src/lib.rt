@@ -17,7 +17,11 @@ const BACKSLASH: u16 = 0x5C;
 
 const COLON: u16 = 0x3A;
 
-// A path's last component: where its file name and its stream name stand, and whether it has a colon.
+// `$DATA`
+const DATA_TYPE: [u16; 5] = [0x24, 0x44, 0x41, 0x54, 0x41];
+
+// A path's last component: where its file name and its stream name stand, and whether it has a colon (the flag and the
+// stream's name stand side by side in `Leaf` of specs/Paths too).
 #[derive(Clone, Copy)]
 pub struct LeafParts {
     pub file: Part,
@@ -37,86 +41,73 @@ pub enum ParsedPath {
 fn is_data_type(units: &[u16]) -> bool
     ensures { result ≡ equal_units true units.now data_type }
 {
-    let data = [0x24u16, 0x44, 0x41, 0x54, 0x41];
-    equal_units(units, &data, true)
+    equal_units(units, &DATA_TYPE, true)
 }
 
 // The last component after its file name: STREAM or STREAM:TYPE.
 fn stream_parts(path: &[u16], file: Part, rest: Part) -> ParsedPath
     ensures { ParsedParts (Within path.now file × Within path.now rest) path.now result (named (parents_of path.now file) (leaf_of (part_of path.now file ∷ split colon (part_of path.now rest)))) }
 {
-    let start = rest.start;
-    let end = rest.end;
-    let units = units_before(path, end);
-    let colon = find_sign(units, COLON, start);
-    let stream = Part { start, end: colon };
+    let units = units_before(path, rest.end);
+    let colon = find_sign(units, COLON, rest.start);
+    let leaf = ParsedPath::Named(LeafParts {
+        file,
+        stream: Part { end: colon, ..rest },
+        colon: true,
+    });
     if colon < units.len() {
         let stream_type = Part {
             start: colon + 1,
-            end,
+            ..rest
         };
-        if is_data_type(part_of(path, stream_type)) {
-            return ParsedPath::Named(LeafParts {
-                file,
-                stream,
-                colon: true,
-            });
-        }
-        return ParsedPath::Invalid;
+        return if is_data_type(part_of(path, stream_type)) {
+            leaf
+        } else {
+            ParsedPath::Invalid
+        };
     }
-    if start == colon {
-        return ParsedPath::Invalid;
+    if rest.start == colon {
+        ParsedPath::Invalid
+    } else {
+        leaf
     }
-    ParsedPath::Named(LeafParts {
-        file,
-        stream,
-        colon: true,
-    })
 }
 
 // The last component by its colons: FILE, FILE:STREAM or FILE:STREAM:TYPE.
 fn leaf_parts(path: &[u16], component: Part) -> ParsedPath
     ensures { ParsedParts (Within path.now component) path.now result (named (parents_of path.now component) (leaf_of (split colon (part_of path.now component)))) }
 {
-    let start = component.start;
-    let end = component.end;
-    let units = units_before(path, end);
-    let colon = find_sign(units, COLON, start);
-    let file = Part { start, end: colon };
+    let units = units_before(path, component.end);
+    let colon = find_sign(units, COLON, component.start);
+    let file = Part {
+        end: colon,
+        ..component
+    };
     if colon < units.len() {
         let rest = Part {
             start: colon + 1,
-            end,
+            ..component
         };
         return stream_parts(path, file, rest);
     }
-    let stream = Part {
-        start: colon,
-        end: colon,
-    };
     ParsedPath::Named(LeafParts {
         file,
-        stream,
+        stream: Part {
+            start: colon,
+            end: colon,
+        },
         colon: false,
     })
 }
 
 // Whether a last component's names are valid, and it has no colon where a directory is asked for.
+#[tactic(auto, unfolding(crate::specs::Paths::valid_leaf, crate::specs::Positions::as_leaf))]
 fn valid_leaf(path: &[u16], leaf: LeafParts, wants_directory: bool) -> bool
     ensures { result ≡ valid_leaf wants_directory (as_leaf path.now leaf) }
 {
-    let file = leaf.file;
-    if !valid_file_name(part_of(path, file)) {
-        return false;
-    }
-    let stream = leaf.stream;
-    if !valid_stream_name(part_of(path, stream)) {
-        return false;
-    }
-    if wants_directory {
-        return !leaf.colon;
-    }
-    true
+    valid_file_name(part_of(path, leaf.file))
+        && valid_stream_name(part_of(path, leaf.stream))
+        && !(wants_directory && leaf.colon)
 }
 
 // The last component, valid.
@@ -154,14 +145,11 @@ fn parse_components(path: &[u16], wants_directory: bool) -> ParsedPath
 }
 
 // Whether the last unit is a backslash.
+#[tactic(auto, using(crate::proofs::Parsing::ends_empty, crate::proofs::Parsing::ends_last))]
 fn ends_in_backslash(path: &[u16]) -> bool
     ensures { result ≡ ends_in backslash path.now }
 {
-    let count = path.len();
-    if count == 0 {
-        return false;
-    }
-    path[count - 1] == BACKSLASH
+    path.last().is_some_and(|unit| *unit == BACKSLASH)
 }
 
 // The path whole. `wants_directory` and `wants_file` are options 0x1 and 0x40 of an open.

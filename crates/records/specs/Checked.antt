@@ -1,5 +1,6 @@
 -- A value, or why a step refuses. With these operators a `do` block reads as the paper's steps: the first refusal ends it.
 use mathlib.Core.{Bool.{Bool, true, false}, Option.{Option, none, some}}
+use Rattle.std.specs.Prelude as code
 use Rattle.records.specs.declared.Status.{Status}
 
 -- what a refusal tells
@@ -31,3 +32,12 @@ refuse_if false s = passed tt
 unfoldable pub some_or : {A : Type 0} → Status → Option A → Checked A
 some_or s none = refuse s
 some_or s (some a) = passed a
+
+-- the code's options and results, as the definitions have them
+unfoldable pub as_option : {A : Type 0} → code.Option A → Option A
+as_option code.None = none
+as_option (code.Some a) = some a
+
+unfoldable pub as_checked : {A B : Type 0} → (A → B) → code.Result A Status → Checked B
+as_checked f (code.Ok a) = passed (f a)
+as_checked f (code.Err s) = refuse s

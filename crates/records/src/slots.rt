@@ -45,29 +45,24 @@ pub const ZERO_OPEN: Open = Open {
     delete_on_close: false,
 };
 
+#[tactic(auto, unfolding(crate::specs::Slots::is_used))]
 pub fn is_used(t: FileType) -> bool
     ensures { result ≡ is_used t }
 {
-    match t {
-        FileType::Unused => false,
-        FileType::Data | FileType::Directory => true,
-    }
+    matches!(t, FileType::Data | FileType::Directory)
 }
 
+#[tactic(auto, unfolding(crate::specs::Slots::is_directory))]
 pub fn is_directory(t: FileType) -> bool
     ensures { result ≡ is_directory t }
 {
-    match t {
-        FileType::Directory => true,
-        FileType::Unused | FileType::Data => false,
-    }
+    matches!(t, FileType::Directory)
 }
 
 pub fn file_used(f: File) -> bool
     ensures { result ≡ file_used f }
 {
-    let file_type = f.file_type;
-    is_used(file_type)
+    is_used(f.file_type)
 }
 
 pub fn link_used(l: Link) -> bool
@@ -79,8 +74,7 @@ pub fn link_used(l: Link) -> bool
 pub fn stream_used(s: Stream) -> bool
     ensures { result ≡ stream_used s }
 {
-    let stream_type = s.stream_type;
-    is_used(stream_type)
+    is_used(s.stream_type)
 }
 
 pub fn open_used(o: Open) -> bool

@@ -6,13 +6,13 @@ ghost use Rattle.std.specs.Prelude.{◌≡◌, ◌+◌, ◌≤◌, length};
 ghost use Rattle.little_endian.specs.LittleEndian.{part};
 ghost use Rattle.little_endian.specs.Writes.{Wrote};
 ghost use Rattle.layout.specs.Records.{open_codec};
-ghost use Rattle.layout.specs.Layout.{open_size, tables_size, decode, Changed};
+ghost use Rattle.layout.specs.Layout.{open_size, decode, Changed};
 ghost use Rattle.layout.specs.Puts.{put_open};
 ghost use Rattle.tables.specs.Tables.{row_at};
 
-use layout::{OPEN_MARK_IN, OPEN_SIZE, OPENS_AT, mark_number};
+use layout::places::OPENS;
+use layout::{OPEN_MARK_IN, TableBytes, mark_number};
 use little_endian::{read_u16, read_u32, read_u64, write_u16, write_u32, write_u64};
-use records::sizes::OPEN_SLOTS;
 use records::slots::ZERO_OPEN;
 use records::{FileNo, Handle, Open, StreamNo};
 
@@ -30,14 +30,12 @@ fn open_from(b: &[u8], at: usize) -> Open
     }
 }
 
-pub fn read_open(b: &[u8], n: usize) -> Open
-    requires { length b.now ≡ tables_size }
+pub fn read_open(b: &TableBytes, n: usize) -> Open
     ensures { result ≡ row_at (decode b.now).opens n }
 {
-    if n < OPEN_SLOTS {
-        open_from(b, OPENS_AT + OPEN_SIZE * n)
-    } else {
-        ZERO_OPEN
+    match OPENS.place(n) {
+        Some(at) => open_from(b, at),
+        None => ZERO_OPEN,
     }
 }
 
@@ -53,48 +51,40 @@ fn put_open(b: &mut [u8], at: usize, o: Open)
     write_u16(b, at + OPEN_MARK_IN, mark_number(o.delete_on_close));
 }
 
-pub fn write_open(b: &mut [u8], n: usize, o: Open)
-    requires { length b.old ≡ tables_size }
+pub fn write_open(b: &mut TableBytes, n: usize, o: Open)
     ensures { Changed b.old b.new (put_open (decode b.old) n o) }
 {
-    if n < OPEN_SLOTS {
-        put_open(b, OPENS_AT + OPEN_SIZE * n, o);
-        return;
+    if let Some(at) = OPENS.place(n) {
+        put_open(b, at, o);
     }
 }
 
 // An open's handle alone.
-pub fn read_handle(b: &[u8], n: usize) -> Handle
-    requires { length b.now ≡ tables_size }
+pub fn read_handle(b: &TableBytes, n: usize) -> Handle
     ensures { result ≡ (row_at (decode b.now).opens n).handle }
 {
-    if n < OPEN_SLOTS {
-        Handle(read_u64(b, OPENS_AT + OPEN_SIZE * n))
-    } else {
-        Handle(0)
+    match OPENS.place(n) {
+        Some(at) => Handle(read_u64(b, at)),
+        None => Handle(0),
     }
 }
 
 // An open's file alone.
-pub fn read_open_file(b: &[u8], n: usize) -> FileNo
-    requires { length b.now ≡ tables_size }
+pub fn read_open_file(b: &TableBytes, n: usize) -> FileNo
     ensures { result ≡ (row_at (decode b.now).opens n).file }
 {
-    if n < OPEN_SLOTS {
-        FileNo(read_u16(b, OPENS_AT + OPEN_SIZE * n + 8))
-    } else {
-        FileNo(0)
+    match OPENS.place(n) {
+        Some(at) => FileNo(read_u16(b, at + 8)),
+        None => FileNo(0),
     }
 }
 
 // An open's stream alone.
-pub fn read_open_stream(b: &[u8], n: usize) -> StreamNo
-    requires { length b.now ≡ tables_size }
+pub fn read_open_stream(b: &TableBytes, n: usize) -> StreamNo
     ensures { result ≡ (row_at (decode b.now).opens n).stream }
 {
-    if n < OPEN_SLOTS {
-        StreamNo(read_u16(b, OPENS_AT + OPEN_SIZE * n + 10))
-    } else {
-        StreamNo(0)
+    match OPENS.place(n) {
+        Some(at) => StreamNo(read_u16(b, at + 10)),
+        None => StreamNo(0),
     }
 }

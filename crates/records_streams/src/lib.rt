@@ -6,16 +6,15 @@ ghost use Rattle.std.specs.Prelude.{◌≡◌, ◌+◌, ◌≤◌, length};
 ghost use Rattle.little_endian.specs.LittleEndian.{part};
 ghost use Rattle.little_endian.specs.Writes.{Wrote};
 ghost use Rattle.layout.specs.Records.{counts_codec, stream_codec};
-ghost use Rattle.layout.specs.Layout.{stream_size, tables_size, decode, Changed};
+ghost use Rattle.layout.specs.Layout.{stream_size, decode, Changed};
 ghost use Rattle.layout.specs.Puts.{put_stream, put_counts};
 ghost use Rattle.tables.specs.Tables.{stream_at};
 
 use codecs::{read_units, write_units};
-use layout::{
-    COUNTS_IN, STREAM_MARK_IN, STREAM_SIZE, STREAMS_AT, kind_number, kind_of, mark_number,
-};
+use layout::places::STREAMS;
+use layout::{COUNTS_IN, STREAM_MARK_IN, TableBytes, kind_number, kind_of, mark_number};
 use little_endian::{read_u16, write_u16};
-use records::sizes::{STREAM_NAME_LIMIT, STREAM_SLOTS};
+use records::sizes::STREAM_NAME_LIMIT;
 use records::slots::{ZERO_COUNTS, ZERO_STREAM};
 use records::{FileNo, FileType, ShareCounts, Stream, StreamNo};
 
@@ -51,30 +50,23 @@ pub fn stream_from(b: &[u8], at: usize) -> Stream
     requires { at + stream_size ≤ length b.now }
     ensures { result ≡ stream_codec.decode (part b.now at stream_size) }
 {
-    let stream_type = kind_of(read_u16(b, at));
-    let file = FileNo(read_u16(b, at + 2));
-    let counts = counts_from(b, at + COUNTS_IN);
-    let delete_pending = read_u16(b, at + STREAM_MARK_IN) != 0;
-    let mut name = [0u16; STREAM_NAME_LIMIT];
+    let mut name = [0; STREAM_NAME_LIMIT];
     read_units(b, at + 4, &mut name);
     Stream {
-        file,
-        stream_type,
+        file: FileNo(read_u16(b, at + 2)),
+        stream_type: kind_of(read_u16(b, at)),
         name,
-        counts,
-        delete_pending,
+        counts: counts_from(b, at + COUNTS_IN),
+        delete_pending: read_u16(b, at + STREAM_MARK_IN) != 0,
     }
 }
 
-pub fn read_stream(b: &[u8], n: StreamNo) -> Stream
-    requires { length b.now ≡ tables_size }
+pub fn read_stream(b: &TableBytes, n: StreamNo) -> Stream
     ensures { result ≡ stream_at (decode b.now).volume.streams n }
 {
-    let i = n.0 as usize;
-    if i < STREAM_SLOTS {
-        stream_from(b, STREAMS_AT + STREAM_SIZE * i)
-    } else {
-        ZERO_STREAM
+    match STREAMS.place(n.0 as usize) {
+        Some(at) => stream_from(b, at),
+        None => ZERO_STREAM,
     }
 }
 
@@ -82,86 +74,65 @@ fn put_stream(b: &mut [u8], at: usize, s: Stream)
     requires { at + stream_size ≤ length b.old }
     ensures { Wrote b.old at (stream_codec.encode s) b.new }
 {
-    let stream_type = s.stream_type;
-    let name = s.name;
-    let counts = s.counts;
-    write_u16(b, at, kind_number(stream_type));
+    write_u16(b, at, kind_number(s.stream_type));
     write_u16(b, at + 2, s.file.0);
-    write_units(b, at + 4, &name);
-    put_counts(b, at + COUNTS_IN, counts);
+    write_units(b, at + 4, &s.name);
+    put_counts(b, at + COUNTS_IN, s.counts);
     write_u16(b, at + STREAM_MARK_IN, mark_number(s.delete_pending));
 }
 
-pub fn write_stream(b: &mut [u8], n: StreamNo, s: Stream)
-    requires { length b.old ≡ tables_size }
+pub fn write_stream(b: &mut TableBytes, n: StreamNo, s: Stream)
     ensures { Changed b.old b.new (put_stream (decode b.old) n s) }
 {
-    let i = n.0 as usize;
-    if i < STREAM_SLOTS {
-        put_stream(b, STREAMS_AT + STREAM_SIZE * i, s);
-        return;
+    if let Some(at) = STREAMS.place(n.0 as usize) {
+        put_stream(b, at, s);
     }
 }
 
 // A stream's share counts alone.
-pub fn read_counts(b: &[u8], n: StreamNo) -> ShareCounts
-    requires { length b.now ≡ tables_size }
+pub fn read_counts(b: &TableBytes, n: StreamNo) -> ShareCounts
     ensures { result ≡ (stream_at (decode b.now).volume.streams n).counts }
 {
-    let i = n.0 as usize;
-    if i < STREAM_SLOTS {
-        counts_from(b, STREAMS_AT + STREAM_SIZE * i + COUNTS_IN)
-    } else {
-        ZERO_COUNTS
+    match STREAMS.place(n.0 as usize) {
+        Some(at) => counts_from(b, at + COUNTS_IN),
+        None => ZERO_COUNTS,
     }
 }
 
-pub fn write_counts(b: &mut [u8], n: StreamNo, c: ShareCounts)
-    requires { length b.old ≡ tables_size }
+pub fn write_counts(b: &mut TableBytes, n: StreamNo, c: ShareCounts)
     ensures { Changed b.old b.new (put_counts (decode b.old) n c) }
 {
-    let i = n.0 as usize;
-    if i < STREAM_SLOTS {
-        put_counts(b, STREAMS_AT + STREAM_SIZE * i + COUNTS_IN, c);
-        return;
+    if let Some(at) = STREAMS.place(n.0 as usize) {
+        put_counts(b, at + COUNTS_IN, c);
     }
 }
 
 // A stream's kind alone.
-pub fn read_stream_type(b: &[u8], n: StreamNo) -> FileType
-    requires { length b.now ≡ tables_size }
+pub fn read_stream_type(b: &TableBytes, n: StreamNo) -> FileType
     ensures { result ≡ (stream_at (decode b.now).volume.streams n).stream_type }
 {
-    let i = n.0 as usize;
-    if i < STREAM_SLOTS {
-        kind_of(read_u16(b, STREAMS_AT + STREAM_SIZE * i))
-    } else {
-        FileType::Unused
+    match STREAMS.place(n.0 as usize) {
+        Some(at) => kind_of(read_u16(b, at)),
+        None => FileType::Unused,
     }
 }
 
 // A stream's file alone.
-pub fn read_stream_file(b: &[u8], n: StreamNo) -> FileNo
-    requires { length b.now ≡ tables_size }
+pub fn read_stream_file(b: &TableBytes, n: StreamNo) -> FileNo
     ensures { result ≡ (stream_at (decode b.now).volume.streams n).file }
 {
-    let i = n.0 as usize;
-    if i < STREAM_SLOTS {
-        FileNo(read_u16(b, STREAMS_AT + STREAM_SIZE * i + 2))
-    } else {
-        FileNo(0)
+    match STREAMS.place(n.0 as usize) {
+        Some(at) => FileNo(read_u16(b, at + 2)),
+        None => FileNo(0),
     }
 }
 
 // A stream's mark alone: it goes with its last open.
-pub fn read_stream_mark(b: &[u8], n: StreamNo) -> bool
-    requires { length b.now ≡ tables_size }
+pub fn read_stream_mark(b: &TableBytes, n: StreamNo) -> bool
     ensures { result ≡ (stream_at (decode b.now).volume.streams n).delete_pending }
 {
-    let i = n.0 as usize;
-    if i < STREAM_SLOTS {
-        read_u16(b, STREAMS_AT + STREAM_SIZE * i + STREAM_MARK_IN) != 0
-    } else {
-        false
+    match STREAMS.place(n.0 as usize) {
+        Some(at) => read_u16(b, at + STREAM_MARK_IN) != 0,
+        None => false,
     }
 }

@@ -13,6 +13,7 @@ use records::constants::{
 };
 
 // A directory is asked for.
+#[tactic(auto, unfolding(store::specs::Request::wants_directory))]
 pub fn wants_directory(r: Request) -> bool
     ensures { result ≡ wants_directory r }
 {
@@ -20,6 +21,7 @@ pub fn wants_directory(r: Request) -> bool
 }
 
 // A file that is no directory is asked for.
+#[tactic(auto, unfolding(store::specs::Request::wants_file))]
 pub fn wants_file(r: Request) -> bool
     ensures { result ≡ wants_file r }
 {
@@ -27,6 +29,7 @@ pub fn wants_file(r: Request) -> bool
 }
 
 // The open's close shall mark what it opened.
+#[tactic(auto, unfolding(store::specs::Request::deletes_on_close))]
 pub fn deletes_on_close(r: Request) -> bool
     ensures { result ≡ deletes_on_close r }
 {
@@ -34,13 +37,15 @@ pub fn deletes_on_close(r: Request) -> bool
 }
 
 // The disposition replaces what is there: supersede, overwrite, overwrite-if.
+#[tactic(auto, unfolding(lists::specs::Lists::one_of, lists::specs::Lists::any))]
 fn replaces(disposition: u32) -> bool
     ensures { result ≡ one_of disposition (supersede ∷ overwrite ∷ overwrite_if ∷ []) }
 {
-    (disposition == SUPERSEDE) | (disposition == OVERWRITE) | (disposition == OVERWRITE_IF)
+    matches!(disposition, SUPERSEDE | OVERWRITE | OVERWRITE_IF)
 }
 
 // Step 1: INVALID_PARAMETER.
+#[tactic(auto, unfolding(store::specs::Request::bad_parameters))]
 pub fn bad_parameters(r: Request) -> bool
     ensures { result ≡ bad_parameters r }
 {
@@ -56,6 +61,7 @@ pub fn bad_parameters(r: Request) -> bool
 }
 
 // Step 2: ACCESS_DENIED.
+#[tactic(auto, unfolding(store::specs::Request::bad_access))]
 pub fn bad_access(r: Request) -> bool
     ensures { result ≡ bad_access r }
 {
@@ -63,6 +69,7 @@ pub fn bad_access(r: Request) -> bool
 }
 
 // Step 3: INVALID_PARAMETER.
+#[tactic(auto, unfolding(store::specs::Request::wants_both))]
 pub fn wants_both(r: Request) -> bool
     ensures { result ≡ wants_both r }
 {
@@ -70,25 +77,25 @@ pub fn wants_both(r: Request) -> bool
 }
 
 // Step 5: MEDIA_WRITE_PROTECTED on a read-only volume.
+#[tactic(auto, unfolding(lists::specs::Lists::one_of, lists::specs::Lists::any, store::specs::Request::writes_volume))]
 pub fn writes_volume(r: Request) -> bool
     ensures { result ≡ writes_volume r }
 {
-    (r.disposition == SUPERSEDE)
-        | (r.disposition == CREATE)
-        | (r.disposition == OVERWRITE)
-        | (r.disposition == OVERWRITE_IF)
+    matches!(r.disposition, SUPERSEDE | CREATE | OVERWRITE | OVERWRITE_IF)
 }
 
 // The disposition opens what is there as it is: open, open-if.
+#[tactic(auto, unfolding(lists::specs::Lists::one_of, lists::specs::Lists::any))]
 pub fn only_opens(r: Request) -> bool
     ensures { result ≡ one_of r.disposition (open_only ∷ open_if ∷ []) }
 {
-    (r.disposition == OPEN_ONLY) | (r.disposition == OPEN_IF)
+    matches!(r.disposition, OPEN_ONLY | OPEN_IF)
 }
 
 // The disposition adds nothing where something is missing: open, overwrite.
+#[tactic(auto, unfolding(lists::specs::Lists::one_of, lists::specs::Lists::any))]
 pub fn adds_nothing(r: Request) -> bool
     ensures { result ≡ one_of r.disposition (open_only ∷ overwrite ∷ []) }
 {
-    (r.disposition == OPEN_ONLY) | (r.disposition == OVERWRITE)
+    matches!(r.disposition, OPEN_ONLY | OVERWRITE)
 }

@@ -3,7 +3,7 @@ use Rattle.std.specs.Prelude.{◌≡◌}
 use Rattle.base.specs.Base.{ℕ, true, List, Step}
 use Rattle.call_contracts.specs.Performs.{StandFor}
 use Rattle.layout.specs.{Layout.{decode, stands_for_tables}, Calls.on_bytes}
-use Rattle.script_lines.specs.{Script.answered, Found.Prints, declared.Printed.Printed}
+use Rattle.script_lines.specs.{Script.answered, Found.Prints, declared.buffers.Printed.Printed}
 use Rattle.store.specs.Calls.{Call, store_step}
 
 -- the lent bytes as a machine that answers calls

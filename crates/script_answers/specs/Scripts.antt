@@ -2,7 +2,7 @@
 use Rattle.std.specs.Prelude.{◌≡◌, ◌∷◌, ◌++◌}
 use Rattle.base.specs.Base.{ℕ, Bool, List, [], take, Answers, Answer, Done}
 use Rattle.format.specs.Bytes.{format_bytes}
-use Rattle.script_lines.specs.{Script.script, declared.Printed.Printed}
+use Rattle.script_lines.specs.{Script.script, declared.buffers.Printed.Printed}
 use Rattle.store.specs.{Model.{Model, model_format}, Calls.model_step}
 use Rattle.script_answers.specs.Answers.{AnswersLine}
 

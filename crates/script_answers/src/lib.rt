@@ -4,25 +4,19 @@
 ghost use Rattle.script_answers.specs.Answers.{AnswersLine};
 
 use calls::{close, open};
-use script_lines::{AskedLine, Printed, path_units, print, print_unknown, read_line};
+use script_lines::buffers::Printed;
+use script_lines::{AskedLine, path_units, print, print_unknown, read_line};
 
 // What a line prints. A line that asks nothing leaves every byte of the tables.
 pub fn answer_line(b: &mut [u8], line: &[u8]) -> Printed
     ensures { AnswersLine line.now result b.old b.new }
 {
-    let asked = read_line(line);
-    match asked {
-        AskedLine::Unknown => print_unknown(),
-        AskedLine::Open(r, at) => {
+    match read_line(line) {
+        None => print_unknown(),
+        Some(AskedLine::Open(r, at)) => {
             let path = path_units(line, at);
-            let units = path.units;
-            let count = path.count;
-            let answer = open(b, r, &units[..count]);
-            print(answer)
+            print(open(b, r, path.as_slice()))
         }
-        AskedLine::Close(h) => {
-            let answer = close(b, h);
-            print(answer)
-        }
+        Some(AskedLine::Close(h)) => print(close(b, h)),
     }
 }

@@ -4,13 +4,12 @@
 #![tactic(auto)]
 
 ghost use Rattle.std.specs.Prelude.{◌≡◌, cond, ◌-◌, eqb, length, take};
-ghost use Rattle.layout.specs.Layout.{tables_size};
 
-use layout::TABLES_SIZE;
+use layout::{TABLES_SIZE, TableBytes};
 use records::constants::ALL_ACCESS;
 use records::sizes::{ACCOUNTS, FILE_SLOTS, LINK_SLOTS, OPEN_SLOTS, STREAM_SLOTS};
 use records::slots::{ZERO_FILE, ZERO_LINK, ZERO_OPEN, ZERO_STREAM};
-use records::{FileNo, LinkNo, StreamNo};
+use records::{File, FileNo, Link, LinkNo, Open, Stream, StreamNo};
 use records_files::write_file;
 use records_links::write_link;
 use records_opens::write_open;
@@ -19,58 +18,52 @@ use script_answers::answer_line;
 use std::io;
 use std::io::{Input, Read};
 
-const LINE_END: u8 = 0x0A;
+const LINE_END: u8 = b'\n';
 
 // As much as is kept of a line, and as is read at once.
 const BUFFER_SIZE: usize = 4096;
 
+// Records written into the slots of a table, in order.
+fn write_rows<T: Copy + Drop, W: Fn(&mut TableBytes, u16, T)>(
+    tables: &mut TableBytes,
+    rows: &[T],
+    write: W,
+)
+    requires { W.IsAlwaysCallable write }
+{
+    for (i, row) in (0..u16::MAX).zip(rows) {
+        write(tables, i, *row);
+    }
+}
+
 // The tables as arrays of zero records, written into the bytes.
-fn write_files(tables: &mut [u8])
-    requires { length tables.old ≡ tables_size }
-    ensures { length tables.new ≡ tables_size }
-{
-    let files = [ZERO_FILE; FILE_SLOTS];
-    for i in 0..FILE_SLOTS {
-        write_file(tables, FileNo(i as u16), files[i]);
-    }
-}
-
-fn write_links(tables: &mut [u8])
-    requires { length tables.old ≡ tables_size }
-    ensures { length tables.new ≡ tables_size }
-{
-    let links = [ZERO_LINK; LINK_SLOTS];
-    for i in 0..LINK_SLOTS {
-        write_link(tables, LinkNo(i as u16), links[i]);
-    }
-}
-
-fn write_streams(tables: &mut [u8])
-    requires { length tables.old ≡ tables_size }
-    ensures { length tables.new ≡ tables_size }
-{
-    let streams = [ZERO_STREAM; STREAM_SLOTS];
-    for i in 0..STREAM_SLOTS {
-        write_stream(tables, StreamNo(i as u16), streams[i]);
-    }
-}
-
-fn write_opens(tables: &mut [u8])
-    requires { length tables.old ≡ tables_size }
-    ensures { length tables.new ≡ tables_size }
-{
-    let opens = [ZERO_OPEN; OPEN_SLOTS];
-    for i in 0..OPEN_SLOTS {
-        write_open(tables, i, opens[i]);
-    }
+fn write_zeros(tables: &mut TableBytes) {
+    write_rows(
+        tables,
+        &[ZERO_FILE; FILE_SLOTS],
+        |b: &mut TableBytes, i: u16, f: File| { write_file(b, FileNo(i), f) },
+    );
+    write_rows(
+        tables,
+        &[ZERO_LINK; LINK_SLOTS],
+        |b: &mut TableBytes, i: u16, l: Link| { write_link(b, LinkNo(i), l) },
+    );
+    write_rows(
+        tables,
+        &[ZERO_STREAM; STREAM_SLOTS],
+        |b: &mut TableBytes, i: u16, s: Stream| { write_stream(b, StreamNo(i), s) },
+    );
+    write_rows(
+        tables,
+        &[ZERO_OPEN; OPEN_SLOTS],
+        |b: &mut TableBytes, i: u16, o: Open| { write_open(b, usize::from(i), o) },
+    );
 }
 
 // A line's answer, written at once.
 fn answer(rt: &impl Print, tables: &mut [u8], line: &[u8]) -> io::Result<()> {
     let printed = answer_line(tables, line);
-    let bytes = printed.bytes;
-    let count = printed.count;
-    rt.write_all(&bytes[..count])
+    rt.write_all(printed.as_slice())
 }
 
 // The bytes before a place.
@@ -112,10 +105,8 @@ fn take_bytes(
     input: &[u8],
 ) -> io::Result<usize> {
     let mut n = begun;
-    let mut i = 0;
-    while i < input.len() {
-        n = take_byte(rt, tables, line, n, input[i])?;
-        i += 1;
+    for byte in input {
+        n = take_byte(rt, tables, line, n, *byte)?;
     }
     Ok(n)
 }
@@ -126,12 +117,10 @@ fn turns_after(left: u64, count: usize) -> u64
     ensures { result ≡ cond (eqb count 0) 0 (left - 1) }
 {
     if count == 0 {
-        return 0;
+        0
+    } else {
+        left.saturating_sub(1)
     }
-    if left == 0 {
-        return 0;
-    }
-    left - 1
 }
 
 // The input part by part, to its end. The last line may lack its line end.
@@ -139,7 +128,7 @@ fn answer_input(rt: &(impl Input + Print), tables: &mut [u8]) -> io::Result<()> 
     let mut reader = rt.reader();
     let mut line = [0u8; BUFFER_SIZE];
     let mut n = 0;
-    let mut left: u64 = 0xFFFF_FFFF_FFFF_FFFF;
+    let mut left = u64::MAX;
     while 0 < left {
         let mut input = [0u8; BUFFER_SIZE];
         let count = reader.read(&mut input)?;
@@ -155,10 +144,7 @@ fn answer_input(rt: &(impl Input + Print), tables: &mut [u8]) -> io::Result<()> 
 // A fresh writable volume with masks 0x1F01FF, and the script on it.
 pub fn run_script(rt: &(impl Input + Print)) -> io::Result<()> {
     let mut tables = [0u8; TABLES_SIZE];
-    write_files(&mut tables);
-    write_links(&mut tables);
-    write_streams(&mut tables);
-    write_opens(&mut tables);
+    write_zeros(&mut tables);
     let masks = [ALL_ACCESS; ACCOUNTS];
     format::format(&mut tables, &masks, false);
     answer_input(rt, &mut tables)

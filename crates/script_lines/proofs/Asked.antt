@@ -1,4 +1,5 @@
 -- A line that asks something is short enough that its whole path is copied.
+use Rattle.std.specs.Prelude.{Some}
 use Rattle.base.{specs.Base.{ℕ, ◌≤◌, ◌≡◌, List, some, length, leb, take, drop, Request}, proofs.Laws.{sym, arith, by_cases, none≢some, length-drop, take_all}}
 use borrow.Author.Tests.{leb-true}
 use Rattle.store.specs.Calls.{Call}
@@ -12,7 +13,7 @@ asked_fits line call e =
     (λ h. absurd (none≢some (rw h at e)))
 
 -- so its whole path is copied
-pub path_fits : (line : List ℕ) (r : Request) (at : ℕ) → as_call line (Open r at) ≡ parse_line line
+pub path_fits : (line : List ℕ) (r : Request) (at : ℕ) → as_call line (Some (Open r at)) ≡ parse_line line
     → take line_limit (drop at line) ≡ drop at line
 unfolding as_call
 path_fits line r at e =

@@ -10,9 +10,9 @@ unfolding is_digit
 digit_low byte h = leb-true 0x30 byte (and_left (leb 0x30 byte) (leb byte 0x39) h)
 
 module _ (most value : ℕ) (line : List ℕ) (at : ℕ) where
-  pub digits_end : length line ≤ at → digits_from most value (drop at line) ≡ some (field_at line value at)
+  pub digits_end : length line ≤ at → digits_from most value (drop at line) ≡ some (field_at line value (length line))
   unfolding digits_from
-  digits_end h = rw (drop_of_length-le line h)
+  digits_end h = rw (drop_of_length-le line h, drop_of_length-le line {i = length line} (omega arith))
 
   pub digits_stop : at < length line → is_digit (get_or line at 0) ≡ false
       → digits_from most value (drop at line) ≡ some (field_at line value at)

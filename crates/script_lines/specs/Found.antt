@@ -1,27 +1,23 @@
 -- What the code's values stand for on a line. A place is a number of bytes from the line's start.
 use Rattle.std.specs.Prelude.{◌≤◌, ◌≡◌}
+use Rattle.std.specs.Prelude as code
 use Rattle.base.specs.Base.{ℕ, List, Option, none, some, length, take, drop}
 use Rattle.store.specs.Calls.{Call, opens, closes}
-use Rattle.script_lines.specs.{Lines.{Field, line_limit}, declared.{FoundNumber.FoundNumber, FoundField.FoundField, AskedLine.AskedLine, PathUnits.PathUnits, Printed.Printed}}
-use Rattle.script_lines.specs.declared.FoundNumber.TheVariants as N
-use Rattle.script_lines.specs.declared.FoundField.TheVariants as F
+use Rattle.script_lines.specs.{Lines.{Field, line_limit}, declared.{AskedLine.AskedLine, buffers.{PathUnits.PathUnits, Printed.Printed}}}
 use Rattle.script_lines.specs.declared.AskedLine.TheVariants as A
 
 abbrev pub field_at : List ℕ → ℕ → ℕ → Field
 field_at line value place = record { value = value; rest = drop place line }
 
-unfoldable pub as_number : List ℕ → FoundNumber → Option Field
-as_number line N.None = none
-as_number line (N.At value place) = some (field_at line value place)
+-- a number and the place after it, which the code finds on a line
+unfoldable pub as_number : List ℕ → code.Option (ℕ × ℕ) → Option Field
+as_number line code.None = none
+as_number line (code.Some (value, place)) = some (field_at line value place)
 
-unfoldable pub as_field : List ℕ → FoundField → Option Field
-as_field line F.None = none
-as_field line (F.At value place) = some (field_at line value place)
-
-unfoldable pub as_call : List ℕ → AskedLine → Option Call
-as_call line A.Unknown = none
-as_call line (A.Open r place) = some (opens r (drop place line))
-as_call line (A.Close h) = some (closes h)
+unfoldable pub as_call : List ℕ → code.Option AskedLine → Option Call
+as_call line code.None = none
+as_call line (code.Some (A.Open r place)) = some (opens r (drop place line))
+as_call line (code.Some (A.Close h)) = some (closes h)
 
 -- these units, in the first places
 pub record Holds (p : PathUnits) (units : List ℕ) : Type 0 where

@@ -6,10 +6,13 @@ ghost use Rattle.lists.specs.Lists.{all};
 ghost use Rattle.script_lines.specs.Lines.{line_limit, is_digit, is_ascii, digits_from, number, field, open_line, close_line, parse_line};
 ghost use Rattle.script_lines.specs.Print.{digit, digits, decimal_width, action_byte, printed, unknown_line, Appended};
 ghost use Rattle.reply_numbers.specs.Numbers.{answer_seen};
-ghost use Rattle.script_lines.specs.Found.{as_number, as_field, as_call, Holds, Prints};
+ghost use Rattle.script_lines.specs.Found.{as_number, as_call, Holds, Prints};
 
+use crate::buffers::{PathUnits, Printed};
 use records::{Answer, CreateAction, Handle, Outcome, Request};
 use reply_numbers::{handle_of, status_of};
+
+pub mod buffers;
 
 // A line's bytes, its line end not counted.
 pub const LINE_LIMIT: usize = 1024;
@@ -19,51 +22,22 @@ const MOST_32: u64 = 0xFFFF_FFFF;
 
 const MOST_64: u64 = 0xFFFF_FFFF_FFFF_FFFF;
 
-const SPACE: u8 = 0x20;
+const SPACE: u8 = b' ';
 
-const LINE_END: u8 = 0x0A;
-
-// A number that stands at a place, and the place after it.
-#[derive(Clone, Copy)]
-enum FoundNumber {
-    None,
-    At(u64, usize),
-}
-
-// A number of 32 bits with a space after it, and the place after that.
-#[derive(Clone, Copy)]
-enum FoundField {
-    None,
-    At(u32, usize),
-}
+const LINE_END: u8 = b'\n';
 
 // What a line asks. The path of an open is what stands from the place on.
 #[derive(Clone, Copy)]
 pub enum AskedLine {
-    Unknown,
     Open(Request, usize),
     Close(Handle),
-}
-
-// A path as units, and how many they are.
-#[derive(Clone, Copy)]
-pub struct PathUnits {
-    pub units: [u16; LINE_LIMIT],
-    pub count: usize,
-}
-
-// What is printed, and how many bytes that is.
-#[derive(Clone, Copy)]
-pub struct Printed {
-    pub bytes: [u8; 32],
-    pub count: usize,
 }
 
 #[tactic(auto, unfolding(crate::specs::Lines::is_digit))]
 fn is_digit(byte: u8) -> bool
     ensures { result ≡ is_digit byte }
 {
-    0x30 <= byte && byte <= 0x39
+    matches!(byte, b'0'..=b'9')
 }
 
 // Whether a value with one digit more is at most `most`.
@@ -73,69 +47,53 @@ fn fits(most: u64, value: u64, digit: u64) -> bool
     digit <= most && value <= (most - digit) / 10
 }
 
-// The number whose digits stand at a place, up to the first byte that is no digit.
-fn digits_at(line: &[u8], from: usize, most: u64) -> FoundNumber
+// The number whose digits stand at a place, up to the first byte that is no digit, and the place after them.
+fn digits_at(line: &[u8], from: usize, most: u64) -> Option<(u64, usize)>
     ensures { as_number line.now result ≡ digits_from most 0 (drop from line.now) }
 {
     let mut value: u64 = 0;
-    let mut at = from;
-    while at < line.len() {
+    for at in from..line.len() {
         let byte = line[at];
         if !is_digit(byte) {
-            return FoundNumber::At(value, at);
+            return Some((value, at));
         }
-        let digit = (byte - 0x30) as u64;
+        let digit = u64::from(byte - b'0');
         if !fits(most, value, digit) {
-            return FoundNumber::None;
+            return None;
         }
         value = value * 10 + digit;
-        at += 1;
     }
-    FoundNumber::At(value, at)
+    Some((value, line.len()))
 }
 
-// The number that stands at a place. It has at least one digit.
-fn number_at(line: &[u8], from: usize, most: u64) -> FoundNumber
+// The number that stands at a place, and the place after it. It has at least one digit.
+fn number_at(line: &[u8], from: usize, most: u64) -> Option<(u64, usize)>
     ensures { as_number line.now result ≡ number most (drop from line.now) }
 {
-    if line.len() <= from {
-        return FoundNumber::None;
+    if from < line.len() && is_digit(line[from]) {
+        digits_at(line, from, most)
+    } else {
+        None
     }
-    if is_digit(line[from]) {
-        return digits_at(line, from, most);
-    }
-    FoundNumber::None
 }
 
-// The number of 32 bits that stands at a place, if a space follows it.
-fn field_at(line: &[u8], from: usize) -> FoundField
-    ensures { as_field line.now result ≡ field (drop from line.now) }
+// The number of 32 bits that stands at a place, if a space follows it, and the place after that.
+fn field_at(line: &[u8], from: usize) -> Option<(u32, usize)>
+    ensures { as_number line.now result ≡ field (drop from line.now) }
 {
-    let found = number_at(line, from, MOST_32);
-    let FoundNumber::At(value, end) = found else {
-        return FoundField::None;
-    };
-    if line.len() <= end {
-        return FoundField::None;
+    let (value, end) = number_at(line, from, MOST_32)?;
+    if end < line.len() && line[end] == SPACE {
+        Some((value as u32, end + 1))
+    } else {
+        None
     }
-    if line[end] != SPACE {
-        return FoundField::None;
-    }
-    FoundField::At(value as u32, end + 1)
 }
 
 // Whether all bytes from a place on are ASCII.
 fn ascii_from(line: &[u8], from: usize) -> bool
     ensures { result ≡ all is_ascii (drop from line.now) }
 {
-    let mut at = from;
-    while at < line.len() {
-        if 0x7F < line[at] {
-            return false;
-        }
-        at += 1;
-    }
-    true
+    line.iter().skip(from).all(|byte| *byte <= 0x7F)
 }
 
 // Whether the fold is 0 or 1, and the path ASCII.
@@ -146,32 +104,18 @@ fn valid_open(line: &[u8], fold: u32, at: usize) -> bool
 }
 
 // What a line asks that begins with `O `.
-fn read_open(line: &[u8]) -> AskedLine
+fn read_open(line: &[u8]) -> Option<AskedLine>
     ensures { as_call line.now result ≡ open_line (drop 2 line.now) }
 {
-    let FoundField::At(account, at) = field_at(line, 2) else {
-        return AskedLine::Unknown;
-    };
-    let FoundField::At(access, at) = field_at(line, at) else {
-        return AskedLine::Unknown;
-    };
-    let FoundField::At(share, at) = field_at(line, at) else {
-        return AskedLine::Unknown;
-    };
-    let FoundField::At(disposition, at) = field_at(line, at) else {
-        return AskedLine::Unknown;
-    };
-    let FoundField::At(options, at) = field_at(line, at) else {
-        return AskedLine::Unknown;
-    };
-    let FoundField::At(attributes, at) = field_at(line, at) else {
-        return AskedLine::Unknown;
-    };
-    let FoundField::At(fold, at) = field_at(line, at) else {
-        return AskedLine::Unknown;
-    };
+    let (account, at) = field_at(line, 2)?;
+    let (access, at) = field_at(line, at)?;
+    let (share, at) = field_at(line, at)?;
+    let (disposition, at) = field_at(line, at)?;
+    let (options, at) = field_at(line, at)?;
+    let (attributes, at) = field_at(line, at)?;
+    let (fold, at) = field_at(line, at)?;
     if !valid_open(line, fold, at) {
-        return AskedLine::Unknown;
+        return None;
     }
     let r = Request {
         account,
@@ -182,40 +126,31 @@ fn read_open(line: &[u8]) -> AskedLine
         attributes,
         fold: fold == 1,
     };
-    AskedLine::Open(r, at)
+    Some(AskedLine::Open(r, at))
 }
 
 // What a line asks that begins with `C `.
-fn read_close(line: &[u8]) -> AskedLine
+fn read_close(line: &[u8]) -> Option<AskedLine>
     ensures { as_call line.now result ≡ close_line (drop 2 line.now) }
 {
-    let found = number_at(line, 2, MOST_64);
-    let FoundNumber::At(handle, end) = found else {
-        return AskedLine::Unknown;
-    };
+    let (handle, end) = number_at(line, 2, MOST_64)?;
     if end < line.len() {
-        return AskedLine::Unknown;
+        return None;
     }
-    AskedLine::Close(Handle(handle))
+    Some(AskedLine::Close(Handle(handle)))
 }
 
-// What a line asks.
-pub fn read_line(line: &[u8]) -> AskedLine
+// What a line asks, if it asks anything.
+pub fn read_line(line: &[u8]) -> Option<AskedLine>
     ensures { as_call line.now result ≡ parse_line line.now }
 {
-    if LINE_LIMIT < line.len() {
-        return AskedLine::Unknown;
-    }
-    if line.len() < 2 {
-        return AskedLine::Unknown;
-    }
-    if line[1] != SPACE {
-        return AskedLine::Unknown;
+    if LINE_LIMIT < line.len() || line.len() < 2 || line[1] != SPACE {
+        return None;
     }
     match line[0] {
         b'O' => read_open(line),
         b'C' => read_close(line),
-        _ => AskedLine::Unknown,
+        _ => None,
     }
 }
 
@@ -224,31 +159,21 @@ pub fn path_units(line: &[u8], from: usize) -> PathUnits
     ensures { Holds result (take line_limit (drop from line.now)) }
 {
     let mut units = [0u16; LINE_LIMIT];
-    let mut at = from;
-    let mut count: usize = 0;
-    while count < LINE_LIMIT && at < line.len() {
-        units[count] = line[at] as u16;
-        at += 1;
-        count += 1;
+    let count = line.len().saturating_sub(from).min(LINE_LIMIT);
+    for i in 0..count {
+        units[i] = u16::from(line[from + i]);
     }
     PathUnits { units, count }
 }
 
-// An action's digit, or `-`.
+// An action's digit, or `-`. The actions are declared in the order of their numbers.
 #[tactic(auto, unfolding(records::specs::Numbers::seen, records::specs::Numbers::action_number, crate::specs::Print::action_byte, crate::specs::Print::digit))]
 fn action_byte(a: Answer) -> u8
     ensures { result ≡ action_byte (answer_seen a).action }
 {
-    let o = a.outcome;
-    match o {
-        Outcome::Success(a, _h) => match a {
-            CreateAction::Superseded => 0x30,
-            CreateAction::Opened => 0x31,
-            CreateAction::Created => 0x32,
-            CreateAction::Overwritten => 0x33,
-        },
-        Outcome::Done => 0x2D,
-        Outcome::Refused(_s) => 0x2D,
+    match a.outcome {
+        Outcome::Success(action, _) => b'0' + action as u8,
+        Outcome::Done | Outcome::Refused(_) => b'-',
     }
 }
 
@@ -258,9 +183,10 @@ fn digit_byte(n: u64) -> u8
     ensures { result ≡ digit (n % 16) }
 {
     let d = (n % 16) as u8;
-    if d < 10 { 0x30 + d } else { 0x37 + d }
+    if d < 10 { b'0' + d } else { b'A' - 10 + d }
 }
 
+// A flag stays, not the base: `put_digits` promises digits for these two alone, and a base that is 0 has none.
 fn base_of(hex: bool) -> u64
     ensures { result ≡ cond hex 16 10 }
 {
@@ -272,12 +198,13 @@ fn decimal_width(number: u64) -> usize
     ensures { result ≡ decimal_width number }
 {
     let mut left = number;
-    let mut width: usize = 1;
-    while width < 20 && 10 <= left {
+    for width in 1..20 {
+        if left < 10 {
+            return width;
+        }
         left = left / 10;
-        width += 1;
     }
-    width
+    20
 }
 
 // A number's digits after the bytes before a place, where there is room for them.
@@ -293,9 +220,7 @@ fn put_digits(out: &mut [u8], at: usize, hex: bool, width: usize, number: u64)
     }
     let base = base_of(hex);
     let mut left = number;
-    let mut i = width;
-    while 0 < i {
-        i -= 1;
+    for i in (0..width).rev() {
         out[at + i] = digit_byte(left % base);
         left = left / base;
     }
@@ -325,7 +250,7 @@ pub fn print_unknown() -> Printed
     ensures { Prints result unknown_line }
 {
     let mut bytes = [0u8; 32];
-    bytes[0] = 0x3F;
+    bytes[0] = b'?';
     bytes[1] = LINE_END;
     Printed { bytes, count: 2 }
 }

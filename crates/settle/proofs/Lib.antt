@@ -1,1 +1,1 @@
-mod Cleared
+pub mod Underway

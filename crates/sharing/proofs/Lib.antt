@@ -3,3 +3,4 @@ pub mod Counts
 pub mod Check
 pub mod Others
 pub mod UpTo
+pub mod Combining

@@ -6,11 +6,12 @@ ghost use Rattle.std.specs.Prelude.{◌≡◌, cond, not, ◌&&◌, ◌||◌, []
 ghost use Rattle.bits.specs.Bits.{has};
 ghost use Rattle.sharing.specs.Sharing.{counted, conflicting, share_check};
 ghost use Rattle.sharing.specs.Sharing.{counts_of_all, without_open};
-ghost use Rattle.sharing.specs.Saturating.{count_limit, plus_up_to, with_open_up_to};
+ghost use Rattle.sharing.specs.Saturating.{count_limit, with_open_up_to};
+ghost use Rattle.sharing.specs.Combined.{Combined};
 ghost use Rattle.sharing.specs.Others.{others_check};
 
 use records::slots::ZERO_COUNTS;
-use records::{Open, ShareCounts};
+use records::{Open, ShareCounts, Terms};
 
 // The access that reads, writes and deletes, and the sharing mode that allows each.
 const READS: u32 = 0x21;
@@ -60,9 +61,11 @@ fn kind_conflicts(wanted: bool, shared: bool, opens: u16, holders: u16, sharers:
 }
 
 // The share check (the paper's quick check) of a new open, from the counts of its stream.
-pub fn share_check(c: ShareCounts, granted: u32, share: u32) -> bool
-    ensures { result ≡ share_check c (record { granted = granted; share = share }) }
+pub fn share_check(c: ShareCounts, t: Terms) -> bool
+    ensures { result ≡ share_check c t }
 {
+    let granted = t.granted;
+    let share = t.share;
     let reads = bits::has(granted, READS);
     let writes = bits::has(granted, WRITES);
     let deletes = bits::has(granted, DELETES);
@@ -101,18 +104,20 @@ fn counts_of_one(o: Open) -> ShareCounts
     }
 }
 
-// The sum, or the largest count where it is larger.
-fn plus(a: u16, b: u16) -> u16
-    ensures { result ≡ plus_up_to count_limit a b }
+// Each count combined with that of what is added or taken.
+fn combined<F: Fn(u16, u16) -> u16>(c: ShareCounts, one: ShareCounts, by: F) -> ShareCounts
+    requires { F.IsAlwaysCallable by }
+    ensures { Combined (F.post by) c one result }
 {
-    if b <= 65535 - a { a + b } else { 65535 }
-}
-
-// The difference, or 0 where there is none.
-fn minus(a: u16, b: u16) -> u16
-    ensures { result ≡ a - b }
-{
-    if b <= a { a - b } else { 0 }
+    ShareCounts {
+        opens: by(c.opens, one.opens),
+        readers: by(c.readers, one.readers),
+        writers: by(c.writers, one.writers),
+        deleters: by(c.deleters, one.deleters),
+        shared_read: by(c.shared_read, one.shared_read),
+        shared_write: by(c.shared_write, one.shared_write),
+        shared_delete: by(c.shared_delete, one.shared_delete),
+    }
 }
 
 // The counts with one open more. No count passes 65535: a stream has at most 256 opens, and then it is `with_open`.
@@ -120,15 +125,7 @@ pub fn with_open(o: Open, c: ShareCounts) -> ShareCounts
     ensures { result ≡ with_open_up_to count_limit o c }
 {
     let one = counts_of_one(o);
-    ShareCounts {
-        opens: plus(c.opens, one.opens),
-        readers: plus(c.readers, one.readers),
-        writers: plus(c.writers, one.writers),
-        deleters: plus(c.deleters, one.deleters),
-        shared_read: plus(c.shared_read, one.shared_read),
-        shared_write: plus(c.shared_write, one.shared_write),
-        shared_delete: plus(c.shared_delete, one.shared_delete),
-    }
+    combined(c, one, |count, more| count.saturating_add(more))
 }
 
 // The counts with one open less.
@@ -136,15 +133,7 @@ pub fn without_open(o: Open, c: ShareCounts) -> ShareCounts
     ensures { result ≡ without_open o c }
 {
     let one = counts_of_one(o);
-    ShareCounts {
-        opens: minus(c.opens, one.opens),
-        readers: minus(c.readers, one.readers),
-        writers: minus(c.writers, one.writers),
-        deleters: minus(c.deleters, one.deleters),
-        shared_read: minus(c.shared_read, one.shared_read),
-        shared_write: minus(c.shared_write, one.shared_write),
-        shared_delete: minus(c.shared_delete, one.shared_delete),
-    }
+    combined(c, one, |count, less| count.saturating_sub(less))
 }
 
 // The share check of an open that is among those counted, against the others: the counts less its own part.
@@ -153,5 +142,5 @@ pub fn others_check(c: ShareCounts, o: Open) -> bool
     ensures { result ≡ others_check c o }
 {
     let others = without_open(o, c);
-    share_check(others, o.granted, o.share)
+    share_check(others, o.terms())
 }

@@ -11,33 +11,28 @@ use records::constants::ALL_ACCESS;
 use records::sizes::ACCOUNTS;
 use script_answers::answer_line;
 use script_io::bytes_before;
-use script_lines::{Printed, print_unknown};
+use script_lines::buffers::Printed;
+use script_lines::print_unknown;
 use std::io;
 
 mod vectors;
 
-const LINE_END: u8 = 0x0A;
+const LINE_END: u8 = b'\n';
 
-// `=`: a case begins.
-const BEGINS: u8 = 0x3D;
+// A case begins.
+const BEGINS: u8 = b'=';
 
-// `>`: what the last line prints.
-const PRINTS: u8 = 0x3E;
-
-fn say(rt: &impl Print, text: &[u8]) -> io::Result<()> {
-    rt.write_all(text)
-}
+// What the last line prints.
+const PRINTS: u8 = b'>';
 
 // The place after the line at `at`, with its line end.
 fn after_line(text: &[u8], at: usize) -> usize
     ensures { After at (length text.now) result }
 {
-    let mut i = at;
-    while i < text.len() {
+    for i in at..text.len() {
         if text[i] == LINE_END {
             return i + 1;
         }
-        i += 1;
     }
     text.len()
 }
@@ -46,37 +41,21 @@ fn after_line(text: &[u8], at: usize) -> usize
 fn same_bytes(a: &[u8], b: &[u8]) -> bool
     ensures { result ≡ same a.now b.now }
 {
-    if a.len() != b.len() {
-        return false;
-    }
-    let mut i = 0;
-    while i < a.len() {
-        if a[i] != b[i] {
-            return false;
-        }
-        i += 1;
-    }
-    true
+    a == b
 }
 
 // Whether this was printed.
 fn is_printed(p: Printed, text: &[u8]) -> bool
     ensures { result ≡ same (take p.count p.bytes) text.now }
 {
-    let bytes = p.bytes;
-    same_bytes(bytes_before(&bytes, p.count), text)
-}
-
-fn say_printed(rt: &impl Print, p: Printed) -> io::Result<()> {
-    let bytes = p.bytes;
-    say(rt, bytes_before(&bytes, p.count))
+    same_bytes(p.as_slice(), text)
 }
 
 // A fresh volume.
 fn begin(rt: &impl Print, tables: &mut [u8]) -> io::Result<()> {
     let masks = [ALL_ACCESS; ACCOUNTS];
     format::format(tables, &masks, false);
-    say(rt, b"=\n")
+    rt.write_all(b"=\n")
 }
 
 // A line with its line end, after one that printed this; what was printed last then.
@@ -86,23 +65,26 @@ fn take_line(
     last: Printed,
     line: &[u8],
 ) -> io::Result<Printed> {
-    let count = line.len();
-    if count == 0 {
+    if line.is_empty() {
         return Ok(last);
     }
-    if line[0] == BEGINS {
-        begin(rt, tables)?;
-        return Ok(last);
-    }
-    if line[0] == PRINTS {
-        if !is_printed(last, &line[1..]) {
-            say(rt, b"differs\n")?;
+    match line[0] {
+        BEGINS => {
+            begin(rt, tables)?;
+            Ok(last)
         }
-        return Ok(last);
+        PRINTS => {
+            if !is_printed(last, &line[1..]) {
+                rt.write_all(b"differs\n")?;
+            }
+            Ok(last)
+        }
+        _ => {
+            let printed = answer_line(tables, bytes_before(line, line.len() - 1));
+            rt.write_all(printed.as_slice())?;
+            Ok(printed)
+        }
     }
-    let printed = answer_line(tables, bytes_before(line, count - 1));
-    say_printed(rt, printed)?;
-    Ok(printed)
 }
 
 // The lines of a text, one after the other.

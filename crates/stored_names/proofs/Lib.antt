@@ -1,3 +1,4 @@
 pub mod Padded
+pub mod Made
 pub mod NameUnits
 pub mod StoredUnits

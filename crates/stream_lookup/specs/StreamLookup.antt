@@ -3,7 +3,6 @@ use Rattle.std.specs.Prelude.{◌&&◌}
 use Rattle.base.specs.Base.{ℕ, Bool, List, Option, none, some, eqb, first, Namespace, BareStream, bare_used, FileNo, StreamNo}
 use Rattle.stored_names.specs.StoredNames.{units}
 use Rattle.units.specs.Units.{equal_units}
-use Rattle.stream_lookup.specs.declared.FoundStream.{FoundStream, TheVariants.{At, Missing}}
 
 -- a stream of the file whose name matches
 unfoldable pub stream_matches : Bool → FileNo → List ℕ → BareStream → Bool
@@ -15,8 +14,3 @@ stream_number (some n) = some (record { 0 = n })
 
 unfoldable pub find_stream : Namespace → Bool → FileNo → List ℕ → Option StreamNo
 find_stream ns fold file name = stream_number (first (stream_matches fold file name) ns.streams)
-
--- what the search finds, as the code answers it
-unfoldable pub found_stream : Option StreamNo → FoundStream
-found_stream none = Missing
-found_stream (some s) = At s

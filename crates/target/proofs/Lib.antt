@@ -1,4 +1,3 @@
 -- Laws that the proofs of the steps cite.
-pub mod Streams
 pub mod Steps
 pub mod Directories

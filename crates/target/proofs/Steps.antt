@@ -1,9 +1,25 @@
--- How the definition goes on once steps 1 to 3 refuse nothing: the refusals of steps 4 and 5, or where the path leads.
-use Rattle.base.{specs.Base.{ℕ, ◌≡◌, Bool, true, false, ◌&&◌, List, Namespace, Checked, refuse, ◌>>=◌, ◌>>◌, refuse_if, ObjectNameInvalid, MediaWriteProtected, Request}, proofs.Laws.{refl, ◌∙◌}}
+-- The refusals of steps 1 to 3, and how the definition goes on once they refuse nothing: the refusals of steps 4 and 5, or
+-- where the path leads.
+use Rattle.base.{specs.Base.{ℕ, ◌≡◌, Bool, true, false, ◌&&◌, List, Namespace, Checked, refuse, ◌>>=◌, ◌>>◌, refuse_if, InvalidParameter, AccessDenied, ObjectNameInvalid, MediaWriteProtected, Request}, proofs.Laws.{refl, ◌∙◌}}
 use Rattle.lookup.specs.{Lookup.locate, Answers.{leaf_names, locate_parsed}}
 use Rattle.paths.specs.{Paths.parse_path, Positions.as_path, declared.ParsedPath.{ParsedPath, TheVariants.{Invalid, Root, Named}}}
 use Rattle.store.specs.{Request.{wants_directory, wants_file, bad_parameters, bad_access, wants_both, writes_volume}, Target.{Target, target}}
 use Rattle.target.specs.Answers.{target_there}
+
+-- steps 1 to 3, in their order
+module _ (ns : Namespace) (r : Request) (path : List ℕ) where
+  pub parameters_refused : bad_parameters r ≡ true → target ns r path ≡ refuse InvalidParameter
+  unfolding target refuse_if ◌>>◌
+  parameters_refused e = rw e
+
+  module _ (parameters : bad_parameters r ≡ false) where
+    pub access_refused : bad_access r ≡ true → target ns r path ≡ refuse AccessDenied
+    unfolding target refuse_if ◌>>◌
+    access_refused e = rw (parameters, e)
+
+    pub types_refused : bad_access r ≡ false → wants_both r ≡ true → target ns r path ≡ refuse InvalidParameter
+    unfolding target refuse_if ◌>>◌
+    types_refused access e = rw (parameters, access, e)
 
 -- steps 1 to 3 refuse nothing, and the path is taken apart
 pub record Reached (r : Request) (path : List ℕ) (parsed : ParsedPath) : Type 0 where

@@ -1,14 +1,8 @@
 -- What the steps answer, as the definitions do.
-use Rattle.base.specs.Base.{Namespace, Checked, passed, refuse, ◌>>=◌, Request}
+use Rattle.base.specs.Base.{Namespace, Checked, ◌>>=◌, Request}
 use Rattle.lookup.specs.Lookup.{Place}
 use Rattle.paths.specs.Paths.{Leaf}
 use Rattle.store.specs.Target.{Target, target_at}
-use Rattle.target.specs.declared.TypeCheck.{TypeCheck, TheVariants.{Passed, Refused}}
-
--- step 8
-unfoldable pub as_check : TypeCheck → Checked (Unit {0})
-as_check Passed = passed tt
-as_check (Refused s) = refuse s
 
 -- what is where a path leads, or the refusal of step 6
 abbrev pub target_there : Namespace → Request → Leaf → Checked Place → Checked Target

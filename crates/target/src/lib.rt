@@ -1,28 +1,23 @@
 // What an open leads to (steps 1 to 8, and the stream of steps 10 and 11), found without looking at the opens.
 #![tactic(auto)]
 
-ghost use Prim.Native.Nat.{ℕ};
-ghost use mathlib.Core.Path.{◌≡◌};
-ghost use mathlib.Core.Bool.{cond};
-ghost use mathlib.Core.List.{List};
-ghost use lib.ListN.{length};
-ghost use lib.Dec.{eqb};
+ghost use Rattle.std.specs.Prelude.{◌≡◌, ℕ, List, cond, eqb};
 ghost use Rattle.records.specs.declared.Status.TheVariants.{ObjectNameCollision};
 ghost use Rattle.records.specs.Constants.{create};
-ghost use Rattle.records.specs.Checked.{refuse_if};
+ghost use Rattle.records.specs.Checked.{refuse_if, as_checked};
 ghost use Rattle.records.specs.Namespace.{namespace};
-ghost use Rattle.layout.specs.Layout.{tables_size, decode};
+ghost use Rattle.layout.specs.Layout.{decode};
 ghost use Rattle.components.specs.Positions.{part_of};
 ghost use Rattle.paths.specs.Positions.{as_leaf};
 ghost use Rattle.lookup.specs.Answers.{as_place, leaf_names};
 ghost use Rattle.stream_lookup.specs.StreamLookup.{find_stream};
-ghost use Rattle.store.specs.Target.{target_new, wrong_type, target_directory, target_data, target_found, target};
+ghost use Rattle.store.specs.Target.{target_new, wrong_type, target_directory, target_data, target_found, target_at, target};
 ghost use Rattle.open_steps.specs.Targets.{as_resolved, as_target};
-ghost use Rattle.target.specs.Answers.{as_check, target_there};
 
 use components::{Part, part_of};
+use layout::TableBytes;
 use lookup::{Located, locate};
-use open_steps::{FoundFile, FoundTarget, NamedBy};
+use open_steps::{FoundFile, FoundTarget};
 use paths::{LeafParts, ParsedPath, parse_path};
 use records::constants::CREATE;
 use records::slots::is_directory;
@@ -34,7 +29,7 @@ use request_checks::{
     adds_nothing, bad_access, bad_parameters, only_opens, wants_both, wants_directory, wants_file,
     writes_volume,
 };
-use stream_lookup::{FoundStream, find_stream};
+use stream_lookup::find_stream;
 
 // The root's path has no last component.
 const NO_LEAF: LeafParts = LeafParts {
@@ -44,180 +39,177 @@ const NO_LEAF: LeafParts = LeafParts {
 };
 
 // Step 7: the last name is missing.
-fn target_new(b: &[u8], r: Request, dir: FileNo, leaf: LeafParts) -> FoundTarget
-    requires { length b.now ≡ tables_size }
-    ensures { (path : List ℕ) → as_target path result ≡ target_new (namespace (decode b.now).volume) r dir (as_leaf path leaf) }
+fn target_new(
+    b: &TableBytes,
+    r: Request,
+    dir: FileNo,
+    leaf: LeafParts,
+) -> Result<FoundTarget, Status>
+    ensures { (path : List ℕ) → as_checked (as_target path) result ≡ target_new (namespace (decode b.now).volume) r dir (as_leaf path leaf) }
 {
     if adds_nothing(r) {
-        return FoundTarget::Refused(Status::ObjectNameNotFound);
+        return Err(Status::ObjectNameNotFound);
     }
     if read_mark(b) {
-        return FoundTarget::Refused(Status::MediaWriteProtected);
+        return Err(Status::MediaWriteProtected);
     }
-    FoundTarget::NoFile(dir, leaf)
-}
-
-// Step 8: what was found is of the type asked for, or the step refuses.
-#[derive(Clone, Copy)]
-enum TypeCheck {
-    Passed,
-    Refused(Status),
+    Ok(FoundTarget::NoFile(dir, leaf))
 }
 
 // Refused where the type is wrong: a collision where the disposition is create.
-fn refuse_type(r: Request, wrong: bool, status: Status) -> TypeCheck
-    ensures { as_check result ≡ refuse_if wrong (cond (eqb r.disposition create) ObjectNameCollision status) }
+fn refuse_type(r: Request, wrong: bool, status: Status) -> Result<(), Status>
+    ensures { as_checked (λ u. u) result ≡ refuse_if wrong (cond (eqb r.disposition create) ObjectNameCollision status) }
 {
     if !wrong {
-        return TypeCheck::Passed;
+        return Ok(());
     }
     if r.disposition == CREATE {
-        return TypeCheck::Refused(Status::ObjectNameCollision);
+        return Err(Status::ObjectNameCollision);
     }
-    TypeCheck::Refused(status)
+    Err(status)
 }
 
-// A directory that a file or a colon is asked of, or a file that a directory is asked of.
-fn check_type(r: Request, leaf: LeafParts, is_dir: bool) -> TypeCheck
-    ensures { (path : List ℕ) → as_check result ≡ wrong_type r (as_leaf path leaf) is_dir }
+// Step 8: a directory that a file or a colon is asked of, or a file that a directory is asked of.
+#[tactic(auto, unfolding(store::specs::Target::wrong_type, paths::specs::Positions::as_leaf))]
+fn check_type(r: Request, leaf: LeafParts, is_dir: bool) -> Result<(), Status>
+    ensures { (path : List ℕ) → as_checked (λ u. u) result ≡ wrong_type r (as_leaf path leaf) is_dir }
 {
     if is_dir {
-        return refuse_type(r, wants_file(r) | leaf.colon, Status::FileIsADirectory);
+        refuse_type(r, wants_file(r) | leaf.colon, Status::FileIsADirectory)
+    } else {
+        refuse_type(r, wants_directory(r), Status::NotADirectory)
     }
-    refuse_type(r, wants_directory(r), Status::NotADirectory)
 }
 
 // Step 10: a found directory is opened and nothing else. A consistent one has its stream.
-#[tactic(auto, using(crate::proofs::Directories::root_denied, crate::proofs::Directories::directory_collides), unfolding(open_steps::specs::Targets::as_target))]
-fn target_directory(b: &[u8], r: Request, at: FoundFile) -> FoundTarget
-    requires { length b.now ≡ tables_size }
-    ensures { (path : List ℕ) → as_target path result ≡ target_directory (namespace (decode b.now).volume) r (as_resolved at) }
+#[tactic(auto, using(crate::proofs::Directories::root_denied, crate::proofs::Directories::directory_collides), unfolding(records::specs::Checked::as_checked))]
+fn target_directory(b: &TableBytes, r: Request, at: FoundFile) -> Result<FoundTarget, Status>
+    ensures { (path : List ℕ) → as_checked (as_target path) result ≡ target_directory (namespace (decode b.now).volume) r (as_resolved at) }
 {
     if !only_opens(r) {
-        if at.file.0 == 0 {
-            return FoundTarget::Refused(Status::AccessDenied);
+        if at.file == FileNo(0) {
+            return Err(Status::AccessDenied);
         }
-        return FoundTarget::Refused(Status::ObjectNameCollision);
+        return Err(Status::ObjectNameCollision);
     }
-    let file = at.file;
     let no_name = [0u16; 0];
-    let found = find_stream(b, file, &no_name, false);
-    match found {
-        FoundStream::At(stream) => FoundTarget::Directory(at, stream),
-        FoundStream::Missing => FoundTarget::Refused(Status::FileCorruptError),
-    }
+    let stream = find_stream(b, at.file, &no_name, false).ok_or(Status::FileCorruptError)?;
+    Ok(FoundTarget::Directory(at, stream))
 }
 
 // Step 11: a found data file, by the stream of the last component's name; one that is marked is refused first.
-fn target_data(b: &[u8], r: Request, path: &[u16], leaf: LeafParts, at: FoundFile) -> FoundTarget
-    requires { length b.now ≡ tables_size }
-    ensures { as_target path.now result ≡ target_data (namespace (decode b.now).volume) r (as_resolved at) (as_leaf path.now leaf) (find_stream (namespace (decode b.now).volume) r.fold at.file (part_of path.now leaf.stream)) }
+fn target_data(
+    b: &TableBytes,
+    r: Request,
+    path: &[u16],
+    leaf: LeafParts,
+    at: FoundFile,
+) -> Result<FoundTarget, Status>
+    ensures { as_checked (as_target path.now) result ≡ target_data (namespace (decode b.now).volume) r (as_resolved at) (as_leaf path.now leaf) (find_stream (namespace (decode b.now).volume) r.fold at.file (part_of path.now leaf.stream)) }
 {
-    let file = at.file;
-    let name = leaf.stream;
-    let found = find_stream(b, file, part_of(path, name), r.fold);
-    match found {
-        FoundStream::At(stream) => {
+    match find_stream(b, at.file, part_of(path, leaf.stream), r.fold) {
+        Some(stream) => {
             if read_stream_mark(b, stream) {
-                return FoundTarget::Refused(Status::DeletePending);
+                return Err(Status::DeletePending);
             }
             if r.disposition == CREATE {
-                return FoundTarget::Refused(Status::ObjectNameCollision);
+                return Err(Status::ObjectNameCollision);
             }
-            FoundTarget::Stream(at, leaf, stream)
+            Ok(FoundTarget::Stream(at, leaf, stream))
         }
-        FoundStream::Missing => {
+        None => {
             if adds_nothing(r) {
-                return FoundTarget::Refused(Status::ObjectNameNotFound);
+                return Err(Status::ObjectNameNotFound);
             }
-            FoundTarget::NoStream(at, leaf)
+            Ok(FoundTarget::NoStream(at, leaf))
         }
     }
 }
 
 // A found file: step 8, and then its stream.
-fn target_found(b: &[u8], r: Request, path: &[u16], leaf: LeafParts, at: FoundFile) -> FoundTarget
-    requires { length b.now ≡ tables_size }
-    ensures { as_target path.now result ≡ target_found (namespace (decode b.now).volume) r (as_leaf path.now leaf) (as_resolved at) }
+fn target_found(
+    b: &TableBytes,
+    r: Request,
+    path: &[u16],
+    leaf: LeafParts,
+    at: FoundFile,
+) -> Result<FoundTarget, Status>
+    ensures { as_checked (as_target path.now) result ≡ target_found (namespace (decode b.now).volume) r (as_leaf path.now leaf) (as_resolved at) }
 {
-    let file = at.file;
-    let is_dir = is_directory(read_file_type(b, file));
-    let checked = check_type(r, leaf, is_dir);
-    if let TypeCheck::Refused(status) = checked {
-        return FoundTarget::Refused(status);
-    }
+    let is_dir = is_directory(read_file_type(b, at.file));
+    check_type(r, leaf, is_dir)?;
     if is_dir {
-        return target_directory(b, r, at);
+        target_directory(b, r, at)
+    } else {
+        target_data(b, r, path, leaf, at)
     }
-    target_data(b, r, path, leaf, at)
 }
 
 // What is where the path leads.
-fn target_at(b: &[u8], r: Request, path: &[u16], leaf: LeafParts, place: Located) -> FoundTarget
-    requires { length b.now ≡ tables_size }
-    ensures { as_target path.now result ≡ target_there (namespace (decode b.now).volume) r (as_leaf path.now leaf) (as_place (as_leaf path.now leaf) place) }
+fn target_at(
+    b: &TableBytes,
+    r: Request,
+    path: &[u16],
+    leaf: LeafParts,
+    place: Located,
+) -> Result<FoundTarget, Status>
+    ensures { as_checked (as_target path.now) result ≡ target_at (namespace (decode b.now).volume) r (as_leaf path.now leaf) (as_place (as_leaf path.now leaf) place) }
 {
     match place {
         Located::Root => {
             let at = FoundFile {
-                link: NamedBy::Nothing,
+                link: None,
                 file: FileNo(0),
             };
             target_found(b, r, path, leaf, at)
         }
         Located::Found(link, file) => {
             let at = FoundFile {
-                link: NamedBy::Link(link),
+                link: Some(link),
                 file,
             };
             target_found(b, r, path, leaf, at)
         }
         Located::Missing(dir) => target_new(b, r, dir, leaf),
-        Located::Refused(status) => FoundTarget::Refused(status),
     }
 }
 
 // The places of a parsed path's last component; a path without one has no names.
+#[tactic(auto, unfolding(paths::specs::Positions::as_leaf, components::specs::Positions::part_of, lookup::specs::Answers::leaf_names))]
 fn leaf_of(parsed: ParsedPath) -> LeafParts
     ensures { (path : List ℕ) → as_leaf path result ≡ leaf_names path parsed }
 {
     match parsed {
-        ParsedPath::Invalid => NO_LEAF,
-        ParsedPath::Root => NO_LEAF,
+        ParsedPath::Invalid | ParsedPath::Root => NO_LEAF,
         ParsedPath::Named(leaf) => leaf,
     }
 }
 
 // The steps in order.
-pub fn find_target(b: &[u8], r: Request, path: &[u16]) -> FoundTarget
-    requires { length b.now ≡ tables_size }
-    ensures { as_target path.now result ≡ target (namespace (decode b.now).volume) r path.now }
+#[tactic(auto, using(crate::proofs::Steps::parameters_refused, crate::proofs::Steps::access_refused, crate::proofs::Steps::types_refused), unfolding(records::specs::Checked::as_checked))]
+pub fn find_target(b: &TableBytes, r: Request, path: &[u16]) -> Result<FoundTarget, Status>
+    ensures { as_checked (as_target path.now) result ≡ target (namespace (decode b.now).volume) r path.now }
 {
     // Steps 1, 2 and 3: the request's numbers alone.
-    let parameters = bad_parameters(r);
-    let access = bad_access(r);
-    let types = wants_both(r);
-    if parameters {
-        return FoundTarget::Refused(Status::InvalidParameter);
+    if bad_parameters(r) {
+        return Err(Status::InvalidParameter);
     }
-    if access {
-        return FoundTarget::Refused(Status::AccessDenied);
+    if bad_access(r) {
+        return Err(Status::AccessDenied);
     }
-    if types {
-        return FoundTarget::Refused(Status::InvalidParameter);
+    if wants_both(r) {
+        return Err(Status::InvalidParameter);
     }
     // Step 4.
-    let directory = wants_directory(r);
-    let file = wants_file(r);
-    let parsed = parse_path(path, directory, file);
+    let parsed = parse_path(path, wants_directory(r), wants_file(r));
     if let ParsedPath::Invalid = parsed {
-        return FoundTarget::Refused(Status::ObjectNameInvalid);
+        return Err(Status::ObjectNameInvalid);
     }
     // Step 5.
     if read_mark(b) & writes_volume(r) {
-        return FoundTarget::Refused(Status::MediaWriteProtected);
+        return Err(Status::MediaWriteProtected);
     }
     // Step 6, and what is where the path leads.
-    let place = locate(b, path, parsed, r.fold);
+    let place = locate(b, path, parsed, r.fold)?;
     target_at(b, r, path, leaf_of(parsed), place)
 }

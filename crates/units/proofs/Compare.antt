@@ -1,5 +1,6 @@
--- Laws of equal_units, for loops that compare unit by unit.
-use Rattle.base.{specs.Base.{ℕ, ◌+◌, ◌≤◌, ◌<◌, ◌≡◌, Bool, true, false, List, ◌∷◌, map, length, get_or, drop, same}, proofs.Laws.{sym, ap, ◌∙◌, drop_of_length-le, length-map, drop_next, same_self, same_tail, same_differs, same-lengths}}
+-- Laws of equal_units, for code that compares unit by unit.
+use Rattle.base.{specs.Base.{ℕ, ◌≡◌, Bool, true, false, ◌&&◌, List, [], ◌∷◌, eqb, map, length, same}, proofs.Laws.{refl, sym, ap, ◌∙◌, arith, length-map, same_self, same_tail, same_differs, same-lengths}}
+use Rattle.std.specs.List.{list_all, zip}
 use Rattle.units.specs.Units.{folded, equal_units}
 
 module _ (fold : Bool) where
@@ -17,16 +18,17 @@ module _ (fold : Bool) where
       same-lengths (map (folded fold) a) (map (folded fold) b)
       (rw (length-map a (folded fold), length-map b (folded fold)) ne)
 
-module _ (fold : Bool) (a b : List ℕ) (i : ℕ) where
-  pub equal_next : i < length a → i < length b → folded fold (get_or a i 0) ≡ folded fold (get_or b i 0) → equal_units fold (drop i a) (drop i b) ≡ equal_units fold (drop (i + 1) a) (drop (i + 1) b)
-  equal_next ha hb e = rw (drop_next a i 0 ha, drop_next b i 0 hb) (equal_tail fold (get_or a i 0) (get_or b i 0) (drop (i + 1) a) (drop (i + 1) b) e)
+  -- two units are equal as they are compared
+  abbrev pub equal_pair : ℕ × ℕ → Bool
+  equal_pair p = eqb (folded fold p.0) (folded fold p.1)
 
-  pub equal_stops : i < length a → i < length b → (folded fold (get_or a i 0) ≡ folded fold (get_or b i 0) → ⊥) → equal_units fold (drop i a) (drop i b) ≡ false
-  equal_stops ha hb ne = rw (drop_next a i 0 ha, drop_next b i 0 hb) (equal_differs fold (get_or a i 0) (get_or b i 0) (drop (i + 1) a) (drop (i + 1) b) ne)
-
-  pub equal_end : length a ≤ i → length b ≤ i → equal_units fold (drop i a) (drop i b) ≡ true
+  -- rows of one length, pair by pair
+  pub equal_zip : (a b : List ℕ) → length a ≡ length b → list_all equal_pair (zip a b) ≡ equal_units fold a b
   unfolding equal_units same
-  equal_end ha hb = rw (drop_of_length-le a ha, drop_of_length-le b hb)
+  equal_zip [] [] h = refl
+  equal_zip [] (y ∷ b) h = absurd (omega arith)
+  equal_zip (x ∷ a) [] h = absurd (omega arith)
+  equal_zip (x ∷ a) (y ∷ b) h = ap (λ (t : Bool). equal_pair (x, y) && t) (equal_zip a b (omega arith))
 
 -- equal names match
 pub equal_matches : (fold : Bool) (a b : List ℕ) → a ≡ b → equal_units fold a b ≡ true

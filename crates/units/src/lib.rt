@@ -5,6 +5,7 @@ ghost use Rattle.std.specs.Prelude.{◌≡◌};
 ghost use Rattle.units.specs.Units.{upper, folded, equal_units};
 
 // a to z as A to Z, every other unit as it is.
+#[tactic(auto, unfolding(crate::specs::Units::upper))]
 fn upper_unit(unit: u16) -> u16
     ensures { result ≡ upper unit }
 {
@@ -15,6 +16,7 @@ fn upper_unit(unit: u16) -> u16
 }
 
 // A unit as it is compared.
+#[tactic(auto, unfolding(crate::specs::Units::folded))]
 pub fn folded_unit(unit: u16, fold: bool) -> u16
     ensures { result ≡ folded fold unit }
 {
@@ -25,15 +27,8 @@ pub fn folded_unit(unit: u16, fold: bool) -> u16
 pub fn equal_units(a: &[u16], b: &[u16], fold: bool) -> bool
     ensures { result ≡ equal_units fold a.now b.now }
 {
-    if a.len() != b.len() {
-        return false;
-    }
-    let mut i = 0;
-    while i < a.len() {
-        if folded_unit(a[i], fold) != folded_unit(b[i], fold) {
-            return false;
-        }
-        i += 1;
-    }
-    true
+    a.len() == b.len()
+        && a.iter()
+            .zip(b)
+            .all(|(x, y)| folded_unit(*x, fold) == folded_unit(*y, fold))
 }

@@ -1,14 +1,14 @@
 -- What is granted goes on.
-use Rattle.base.{specs.Base.◌>>=◌}
+use Rattle.std.proofs.Common.{rules}
+use Rattle.base.specs.Base.{◌>>=◌, as_checked}
 use Rattle.store.specs.Prepare.{admit_existing}
 use Rattle.open_steps.specs.Pendings.{as_pending, as_existing}
-use Rattle.admit.specs.Admitted.{as_terms}
 use Rattle.admit.proofs.admit_existing.Goals as goal
 
-pub returns-in-Refused : goal.returns-in-Refused
-unfolding as_pending as_existing as_terms admit_existing ◌>>=◌
-returns-in-Refused c path = rw (← c.grant-access.ensures, c.in-Refused.is)
+pub returns-in_err-terms : goal.returns-in_err-terms
+unfolding as_checked as_existing admit_existing ◌>>=◌
+returns-in_err-terms c = search rules
 
-pub returns-in-Granted : goal.returns-in-Granted
-unfolding as_pending as_existing as_terms admit_existing ◌>>=◌
-returns-in-Granted c path = rw (← c.grant-access.ensures, c.in-Granted.is)
+pub returns : goal.returns
+unfolding as_checked as_pending as_existing admit_existing ◌>>=◌
+returns c = search rules

@@ -16,4 +16,4 @@ returns c =
     (writes_then (λ (t : Tables). open_stored t a.a.row (new_open (as_accepted ns a.path.now a.a)))
     c.write_placed.ensures
     (always
-    (rw (c.file_of-file.ensures ns a.path.now, c.stream_of-stream.ensures ns a.path.now) at c.store_open.ensures)))
+    (rw (c.opened.ensures.file ns a.path.now, c.opened.ensures.stream ns a.path.now) at c.store_open.ensures)))

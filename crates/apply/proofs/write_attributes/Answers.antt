@@ -5,4 +5,4 @@ use Rattle.apply.proofs.write_attributes.Goals as goal
 pub returns : goal.returns
 unfolding with_attributes
 returns c =
-    rw c.read_file-f.ensures at c.write_file.ensures
+    rw c.read_file.ensures at c.write_file.ensures

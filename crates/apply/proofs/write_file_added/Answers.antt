@@ -17,6 +17,6 @@ returns c =
     (writes_then (λ (t : Tables). put_streams t (streams_added a.path.now a.f a.at))
     (writes_then
     (λ (t : Tables). put_link t a.at.link (link_new a.f.dir (part_of a.path.now a.f.leaf.file) a.at.file))
-    (always (rw c.read_file-parent.ensures at c.write_file.ensures))
+    (always (rw c.read_file.ensures at c.write_file.ensures))
     c.write_link_added.ensures)
     c.write_file_streams.ensures)

@@ -13,7 +13,7 @@ returns c =
       long = c.write_link.ensures.long;
       changed = λ room.
           rw (
-            c.stored_name-stored.ensures,
+            c.stored_name.ensures,
             c.part_of.ensures,
             places_all file_name_limit (part_of a.path.now a.f.leaf.file) room,
           )

@@ -11,9 +11,9 @@ returns c =
       long = c.write_stream.ensures.long;
       changed = λ room.
           rw (
-            c.stored_name-stored.ensures,
+            c.stored_name.ensures,
             places_all stream_name_limit c.args.name.now room,
-            c.read_counts-counts.ensures,
+            c.read_counts.ensures,
           )
           at c.write_stream.ensures;
     }

@@ -1,5 +1,5 @@
 -- The invariant: what is asked is what the links from j on say.
-use Rattle.base.{specs.Base.{◌-◌, ◌≡◌, not, ◌||◌, drop, all, keep, link_used, link_slots}}
+use Rattle.base.{specs.Base.{◌≡◌, not, ◌||◌, drop, all, keep, link_used}}
 use Rattle.consistency.specs.Good.{link_names_differ}
 use Rattle.layout.{specs.Layout.decode}
 use Rattle.audit_links.proofs.differs_from.Given as goal
@@ -7,6 +7,3 @@ use Rattle.audit_links.proofs.differs_from.Given as goal
 abbrev pub invariant-loop-j : goal.invariant-loop-j
 invariant-loop-j l =
     all (link_names_differ l.l) (keep link_used (drop l.from (decode l.b).volume.links)) ≡ all (λ m. not (link_used m) || link_names_differ l.l m) (drop l.j (decode l.b).volume.links)
-
-abbrev pub decreases-loop-j : goal.decreases-loop-j
-decreases-loop-j l = link_slots - l.j

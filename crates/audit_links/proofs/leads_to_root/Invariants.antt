@@ -5,7 +5,4 @@ use Rattle.audit_links.specs.Linked.{leads}
 use Rattle.audit_links.proofs.leads_to_root.Given as goal
 
 abbrev pub invariant-loop-left : goal.invariant-loop-left
-invariant-loop-left l = leads l.up file_slots l.from ≡ leads l.up l.left l.at
-
-abbrev pub decreases-loop-left : goal.decreases-loop-left
-decreases-loop-left l = l.left
+invariant-loop-left l = leads l.up file_slots l.from ≡ leads l.up l._left l.at

@@ -5,6 +5,3 @@ use Rattle.audit_links.proofs.links_consistent.Given as goal
 
 abbrev pub invariant-loop-i : goal.invariant-loop-i
 invariant-loop-i l = Passed (decode l.b).volume.files (decode l.b).volume.links l.keys l.counts l.up l.i
-
-abbrev pub decreases-loop-i : goal.decreases-loop-i
-decreases-loop-i l = l.i

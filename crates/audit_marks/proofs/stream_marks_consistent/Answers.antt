@@ -1,34 +1,18 @@
-use Rattle.base.{specs.Base.{ℕ, ◌≡◌, List, length, stream_slots, zero_bare, bare, bare_at, namespace}, proofs.Laws.{refl, sym, ◌∙◌, arith, length-map, numbered_stops, numbered_next, numbered_end}}
+use Rattle.base.{specs.Base.{ℕ, stream_slots, zero_bare, bare, bare_at, namespace}, proofs.Laws.{refl, rules, ◌∙◌, length-map}}
+use borrow.Author.Tests.{tests}
+use Rattle.std.proofs.lemmas.Iterator.{YieldsList-from_range}
+use Rattle.std.proofs.lemmas.Iterator.Search.{all_from_yields_List}
+use Rattle.children.proofs.Ranges.{all_numbered}
+use Rattle.consistency.specs.Test.{stream_mark_test}
 use Rattle.layout.{specs.Layout.decode, proofs.Lengths.streams_count}
 use Rattle.audit_marks.proofs.stream_marks_consistent.Goals as goal
-use Rattle.audit_marks.proofs.stream_marks_consistent.Invariants.{test, streams}
-
-module _ (b : List ℕ) where
-  streams_long : length (streams b) ≡ stream_slots
-  unfolding namespace
-  streams_long = length-map (decode b).volume.streams bare ∙ streams_count b
-
-pub returns-then-not-stream_mark_consistent : goal.returns-then-not-stream_mark_consistent
-unfolding bare_at
-returns-then-not-stream_mark_consistent c =
-    let b = c.args.b.now in
-    let size = streams_long b in
-    let failed = c.if-not-stream_mark_consistent.true in
-    sym (c.loop-i.invariant ∙ numbered_stops (test b) (streams b) c.loop-i.i zero_bare (omega arith) (cc))
-
-pub loop-i-preserved : goal.loop-i-preserved
-unfolding bare_at
-loop-i-preserved c =
-    let b = c.args.b.now in
-    let size = streams_long b in
-    let passed = c.if-not-stream_mark_consistent.false in
-    c.loop-i.invariant ∙ numbered_next (test b) (streams b) c.loop-i.i zero_bare (omega arith) (cc)
 
 pub returns : goal.returns
+unfolding bare_at namespace
 returns c =
     let b = c.args.b.now in
-    let size = streams_long b in
-    sym (c.loop-i.invariant ∙ numbered_end (test b) (streams b) c.loop-i.i (omega arith))
-
-pub loop-i-init : goal.loop-i-init
-loop-i-init c = refl
+    let t = decode b in
+    let streams = (namespace t.volume).streams in
+    all_numbered zero_bare _ (stream_mark_test t.opens.rows) streams (length-map t.volume.streams bare ∙ streams_count b) (λ i. refl)
+    (all_from_yields_List (λ (i : ℕ). stream_mark_test t.opens.rows i (bare_at streams (record { 0 = i }))) _ _ _ c.all.ensures.ran
+    (YieldsList-from_range 0 stream_slots stream_slots refl refl) (λ x b q k. search (rules, tests)))

@@ -13,7 +13,7 @@ unfolding row_at
 loop-i-preserved-then-n-lt-STREAM_SLOTS c =
     let b = c.args.b.now in
     counting_counts (decode b).opens.rows (opens_count b) c.loop-i.i (omega arith) c.loop-i.invariant c.read_open-o.ensures
-    (sym c.open_used.ensures ∙ c.if-open_used.true) (omega (arith, ltb-true)) c.with_open-after.ensures
+    (sym c.open_used.ensures ∙ c.if-open_used.true) (omega (arith, ltb-true)) c.with_open.ensures
 
 pub loop-i-preserved : goal.loop-i-preserved
 unfolding row_at

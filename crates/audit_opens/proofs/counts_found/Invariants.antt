@@ -5,6 +5,3 @@ use Rattle.audit_opens.proofs.counts_found.Given as goal
 
 abbrev pub invariant-loop-i : goal.invariant-loop-i
 invariant-loop-i l = CountsPass (decode l.b).opens.rows l.counts l.i
-
-abbrev pub decreases-loop-i : goal.decreases-loop-i
-decreases-loop-i l = l.i

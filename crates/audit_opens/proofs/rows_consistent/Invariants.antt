@@ -8,6 +8,3 @@ abbrev pub invariant-loop-i : goal.invariant-loop-i
 invariant-loop-i l =
     let t = decode l.b in
     (l.i ≤ open_slots) × Scanned (open_test t.volume.streams t.volume.next_handle.0) handle_no t.opens.rows l.keys l.i
-
-abbrev pub decreases-loop-i : goal.decreases-loop-i
-decreases-loop-i l = l.i

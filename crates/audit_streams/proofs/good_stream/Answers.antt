@@ -3,26 +3,20 @@ use Rattle.base.{specs.Base.bare}
 use Rattle.audit_streams.proofs.{Streams.stream-parts}
 use Rattle.audit_streams.proofs.good_stream.Goals as goal
 
-pub returns-then-not-good_stream_name : goal.returns-then-not-good_stream_name
+pub returns-then-good_stream_name : goal.returns-then-good_stream_name
 unfolding bare
-returns-then-not-good_stream_name c =
-    let n = c in
-    let a = n.args in
-    rw (stream-parts a.of (bare a.s), ← n.good_stream_name.ensures, c.if-not-good_stream_name.true)
-
-pub returns : goal.returns
-unfolding bare
-returns c =
-    let d = c in
-    let u = d in
-    let n = u in
-    let a = n.args in
+returns-then-good_stream_name c =
     rw (
-      stream-parts a.of (bare a.s),
-      ← n.good_stream_name.ensures,
-      u.if-not-good_stream_name.false,
-      ← d.is_used.ensures,
-      ← d.is_directory.ensures,
-      ← d.is_directory-2.ensures,
-      ← u.unit_at-unnamed.ensures,
+      stream-parts c.args.of (bare c.args.s),
+      ← c.good_stream_name.ensures,
+      c.if-good_stream_name.true,
+      ← c.is_used.ensures,
+      ← c.is_directory.ensures,
+      ← c.is_directory-then-good_stream_name.ensures,
+      ← c.unit_at.ensures,
     )
+
+pub returns-else-good_stream_name : goal.returns-else-good_stream_name
+unfolding bare
+returns-else-good_stream_name c =
+    rw (stream-parts c.args.of (bare c.args.s), ← c.good_stream_name.ensures, c.if-good_stream_name.false)

@@ -5,6 +5,3 @@ use Rattle.audit_streams.proofs.streams_consistent.Given as goal
 
 abbrev pub invariant-loop-i : goal.invariant-loop-i
 invariant-loop-i l = Passed (decode l.b).volume.files (streams l.b) l.keys l.all l.unnamed l.i
-
-abbrev pub decreases-loop-i : goal.decreases-loop-i
-decreases-loop-i l = l.i

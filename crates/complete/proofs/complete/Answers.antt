@@ -1,21 +1,14 @@
--- By what is pending.
-use Rattle.base.{specs.Base.◌>>=◌}
-use Rattle.open_steps.specs.{Pendings.as_pending, Decisions.as_decision}
-use Rattle.complete.specs.Placing.{TakesFreeRow}
+-- A refusal stays, and what is pending is decided.
+use Rattle.std.proofs.lemmas.Result.{err_from_is_err_and}
+use Rattle.base.specs.Base.{as_checked, ◌>>=◌}
 use Rattle.complete.proofs.complete.Goals as goal
 
-pub returns-in-Refused : goal.returns-in-Refused
-unfolding as_decision as_pending TakesFreeRow ◌>>=◌
-returns-in-Refused c = record { is = rw c.in-Refused.is; row = tt }
+pub returns-in_err-open : goal.returns-in_err-open
+unfolding as_checked ◌>>=◌
+returns-in_err-open c =
+    let q = err_from_is_err_and c.from_residual.result c.from_residual.ensures.1 in
+    record { is = rw (q.1, q.2, c.in_err-open.was); row = rw q.1 tt }
 
-pub returns-in-Existing : goal.returns-in-Existing
-unfolding as_pending ◌>>=◌
-returns-in-Existing c = rw c.in-Existing.is (c.complete_existing.ensures c.args.path.now)
-
-pub returns-in-NewStream : goal.returns-in-NewStream
-unfolding as_pending ◌>>=◌
-returns-in-NewStream c = rw c.in-NewStream.is (c.complete_stream.ensures c.args.path.now)
-
-pub returns-in-NewFile : goal.returns-in-NewFile
-unfolding as_pending ◌>>=◌
-returns-in-NewFile c = rw c.in-NewFile.is c.complete_file.ensures
+pub returns : goal.returns
+unfolding as_checked ◌>>=◌
+returns c = rw c.in_ok-open.was c.complete_pending.ensures

@@ -1,16 +1,16 @@
 -- By the open's place.
-use Rattle.base.{specs.Base.◌>>=◌}
-use Rattle.open_steps.specs.Decisions.{as_accepted, as_decision}
-use Rattle.complete.specs.Placing.{as_handle, RowFree, finished, TakesFreeRow}
+use Rattle.std.proofs.lemmas.Result.{err_from_is_err_and}
+use Rattle.base.{specs.Base.{as_checked, ◌>>=◌}}
+use Rattle.open_steps.specs.Decisions.{as_accepted}
+use Rattle.complete.specs.Placing.{finished}
 use Rattle.complete.proofs.finish.Goals as goal
 
-pub returns-in-Refused : goal.returns-in-Refused
-unfolding as_decision as_handle finished TakesFreeRow ◌>>=◌
-returns-in-Refused c path =
-    record { is = rw (← c.open_place-place.ensures.is, c.in-Refused.is); row = tt }
+pub returns-in_err-row : goal.returns-in_err-row
+unfolding as_checked finished ◌>>=◌
+returns-in_err-row c path =
+    let q = err_from_is_err_and c.from_residual.result c.from_residual.ensures.1 in
+    record { is = rw (q.1, q.2, ← c.in_err-row.ensures.is); row = rw q.1 tt }
 
-pub returns-in-At : goal.returns-in-At
-unfolding as_decision as_accepted as_handle RowFree finished TakesFreeRow ◌>>=◌
-returns-in-At c path =
-    let e = c.open_place-place.ensures in
-    record { is = rw (← e.is, c.in-At.is); row = rw c.in-At.is at e.row }
+pub returns : goal.returns
+unfolding as_checked as_accepted finished ◌>>=◌
+returns c path = record { is = rw (← c.in_ok-row.ensures.is); row = c.in_ok-row.ensures.row }

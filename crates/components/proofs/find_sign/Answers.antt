@@ -1,18 +1,15 @@
-use Rattle.base.{specs.Base.{not}, proofs.Laws.{refl, ap, arith, eq-eqb, ne_eqb}}
-use Rattle.components.proofs.{Leading.{seek_next, seek_stops, seek_end}}
-use Rattle.components.specs.Positions.{place_of}
+-- The place found among the units from `at` on.
+use Rattle.base.{specs.Base.{ℕ, ◌+◌, ◌≡◌, true, false, List}, proofs.Laws.{ap, ◌∙◌, rules}}
+use Rattle.std.proofs.{Common.{tests}, lemmas.Iterator.{YieldsList-from_slice, IsFirst-from_position}}
+use Rattle.components.proofs.Leading.{leading_found}
+use Rattle.components.specs.Positions.{leading, place_of, no_sign}
 use Rattle.components.proofs.find_sign.Goals as goal
-
-pub returns-then-units-i : goal.returns-then-units-i
-unfolding place_of
-returns-then-units-i c = seek_stops c.loop-i.invariant (omega arith) (ap not (eq-eqb _ _ c.if-units-i.true))
-
-pub loop-i-preserved : goal.loop-i-preserved
-loop-i-preserved c = seek_next c.loop-i.invariant (omega arith) (ap not (ne_eqb _ _ c.if-units-i.false))
 
 pub returns : goal.returns
 unfolding place_of
-returns c = seek_end c.loop-i.invariant c.loop-i-test.false
-
-pub loop-i-init : goal.loop-i-init
-loop-i-init c = record { left = refl }
+returns c =
+    let p = no_sign c.args.sign in
+    let rest = c.units_from-rest.result.now in
+    let found = IsFirst-from_position c.position.new.self _ c.position.result (λ u. p u ≡ false) (λ u. p u ≡ true) c.position.ensures.ran (YieldsList-from_slice rest cc) (λ x q k. search (rules, tests)) (λ x q k. search (rules, tests)) in
+    ap (λ (n : ℕ). c.args.at + n) (c.unwrap_or.ensures ∙ leading_found p rest c.position.result found)
+    ∙ ap (λ (us : List ℕ). c.args.at + leading p us) c.units_from-rest.ensures

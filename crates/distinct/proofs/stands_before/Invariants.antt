@@ -5,6 +5,3 @@ use Rattle.distinct.proofs.stands_before.Given as goal
 
 abbrev pub invariant-loop-i : goal.invariant-loop-i
 invariant-loop-i l = found l.keys l.key l.end ≡ found l.keys l.key l.i
-
-abbrev pub decreases-loop-i : goal.decreases-loop-i
-decreases-loop-i l = l.i

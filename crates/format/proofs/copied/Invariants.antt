@@ -4,6 +4,3 @@ use Rattle.format.proofs.copied.Given as goal
 
 abbrev pub invariant-loop-account : goal.invariant-loop-account
 invariant-loop-account l = Copied (take accounts (padded accounts l.masks)) l.copy l.account
-
-abbrev pub decreases-loop-account : goal.decreases-loop-account
-decreases-loop-account l = accounts - l.account

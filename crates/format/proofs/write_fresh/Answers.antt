@@ -3,14 +3,6 @@ use Rattle.base.proofs.Laws.{arith}
 use Rattle.format.proofs.{Written.written}
 use Rattle.format.proofs.write_fresh.Goals as goal
 
-pub shape_of-b : goal.shape_of-b
-shape_of-b c =
-    let stream = c in
-    let file = stream in
-    let mark = file in
-    let start = mark in
-    omega (arith, stream.write_stream.ensures.long, start.requires)
-
 pub returns : goal.returns
 returns c =
     let stream = c in
@@ -19,9 +11,8 @@ returns c =
     let mark = next in
     let clear = mark in
     let start = clear in
-    written start.args.masks start.args.read_only start.args.b.now _ _ _ _ _ start.requires clear.clear.ensures
+    written start.args.masks start.args.read_only start.args.b.now _ _ _ _ _ (omega arith) clear.clear.ensures
     mark.write_mark.ensures
     next.write_next.ensures
     (rw file.root_file.ensures at file.write_file.ensures)
     (rw stream.root_stream.ensures at stream.write_stream.ensures)
-    (λ i. omega (arith, c.type_inv.b i))

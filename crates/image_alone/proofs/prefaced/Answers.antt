@@ -8,7 +8,7 @@ pub returns-in-Header : goal.returns-in-Header
 returns-in-Header c =
     rw (
       c.in-Header.is,
-      header_preface c.args.block.now (omega arith) (λ i. omega (arith, c.type_inv.block i)),
+      header_preface c.args.block.now (omega arith) (λ i. omega (arith, c.fits-block i)),
       ← c.read_u16.ensures,
       ← c.read_u16-in-Header.ensures,
       ← c.read_u16-in-Header-2.ensures,

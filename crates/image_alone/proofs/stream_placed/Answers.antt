@@ -5,9 +5,9 @@ use Rattle.stored_names.proofs.StoredUnits.{units_empty}
 use Rattle.image.specs.Alone.{stream_placed}
 use Rattle.image_alone.proofs.stream_placed.Goals as goal
 
-pub returns-then-file-ge-FILE_SLOTS : goal.returns-then-file-ge-FILE_SLOTS
+pub returns-then-s-ge-FILE_SLOTS : goal.returns-then-s-ge-FILE_SLOTS
 unfolding stream_placed bare
-returns-then-file-ge-FILE_SLOTS c = rw (le-ltb _ file_slots c.if-file-ge-FILE_SLOTS.true)
+returns-then-s-ge-FILE_SLOTS c = rw (le-ltb _ file_slots c.if-s-ge-FILE_SLOTS.true)
 
 pub returns-then-is_directory : goal.returns-then-is_directory
 unfolding stream_placed bare

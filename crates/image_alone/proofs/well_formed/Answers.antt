@@ -20,7 +20,7 @@ pub returns : goal.returns
 returns c =
     let a = c.args in
     rw (
-      formed a.block.now (omega arith) (λ i. omega (arith, c.type_inv.block i)) a.n (omega arith),
+      formed a.block.now (omega arith) (λ i. omega (arith, c.fits-block i)) a.n (omega arith),
       ← c.read_u32.ensures,
       ← c.record_of-held.ensures,
       ← c.prefaced.ensures,

@@ -10,7 +10,7 @@ use Rattle.image_read.proofs.put_block.Goals.{In-FileSlot, In-LinkSlot, In-Strea
 -- the record found, and its place in the tables
 module _ (c : In-FileSlot) where
   file_found : record_of c.args.n ≡ FileSlot c.in-FileSlot.k
-  file_found = sym c.record_of-record.ensures ∙ c.in-FileSlot.is
+  file_found = sym c.record_of.ensures ∙ c.in-FileSlot.is
 
   file_fits : files_at + file_size * c.in-FileSlot.k + file_size ≤ tables_size
   unfolding place_of size_of
@@ -18,7 +18,7 @@ module _ (c : In-FileSlot) where
 
 module _ (c : In-LinkSlot) where
   link_found : record_of c.args.n ≡ LinkSlot c.in-LinkSlot.k
-  link_found = sym c.record_of-record.ensures ∙ c.in-LinkSlot.is
+  link_found = sym c.record_of.ensures ∙ c.in-LinkSlot.is
 
   link_fits : links_at + link_size * c.in-LinkSlot.k + link_size ≤ tables_size
   unfolding place_of size_of
@@ -26,7 +26,7 @@ module _ (c : In-LinkSlot) where
 
 module _ (c : In-StreamSlot) where
   stream_found : record_of c.args.n ≡ StreamSlot c.in-StreamSlot.k
-  stream_found = sym c.record_of-record.ensures ∙ c.in-StreamSlot.is
+  stream_found = sym c.record_of.ensures ∙ c.in-StreamSlot.is
 
   stream_fits : streams_at + stream_size * c.in-StreamSlot.k + stream_size ≤ tables_size
   unfolding place_of size_of
@@ -36,8 +36,8 @@ pub returns-in-Header : goal.returns-in-Header
 unfolding place_of record_in record_at size_of preface spare_for to_bytes
 returns-in-Header c =
     let a = c.args in
-    found_put a.n (sym c.record_of-record.ensures ∙ c.in-Header.is) a.block.now a.spare.now
-    (c.clear.ensures ∙ ap (λ (n : ℕ). replicate {A = ℕ} n 0) c.requires.0) c.copy_part.ensures
+    found_put a.n (sym c.record_of.ensures ∙ c.in-Header.is) a.block.now a.spare.now
+    (c.clear.ensures ∙ ap (λ (n : ℕ). replicate {A = ℕ} n 0) c.told-spare) c.copy_part.ensures
 
 pub returns-in-FileSlot : goal.returns-in-FileSlot
 unfolding place_of record_in record_at size_of preface spare_for
@@ -59,7 +59,7 @@ returns-in-StreamSlot c =
 
 pub returns-in-Past : goal.returns-in-Past
 unfolding put_block place_of record_in record_at size_of preface spare_for
-returns-in-Past c = rw (← c.record_of-record.ensures, c.in-Past.is)
+returns-in-Past c = rw (← c.record_of.ensures, c.in-Past.is)
 
 pub overflow_mul-k : goal.overflow_mul-k
 overflow_mul-k c = let f = file_fits (goal.at.overflow_mul-k c).In-FileSlot in search rules

@@ -1,5 +1,5 @@
 -- The length of the second set, then the row.
-use Rattle.base.{specs.Base.{Bool, ℕ, List, ◌+◌, ◌≤◌, ◌≡◌, true, length}, proofs.Laws.{refl, arith, rules}}
+use Rattle.base.{specs.Base.{Bool, ℕ, List, ◌+◌, ◌≤◌, ◌≡◌, true, length}, proofs.Laws.{refl, rules}}
 use Rattle.image.specs.{Blocks.image_blocks, Image.{Reading, blocks_in, read_row}}
 use Rattle.image_read.specs.Reads.{or_corrupt}
 use Rattle.image_read.proofs.{Rows.row_ends, Calls.{read_length, read_refused, read_done}}
@@ -9,13 +9,14 @@ use Rattle.image_read.proofs.read_image.Goals as goal
 abbrev reading : List ℕ → ℕ → Reading
 reading spare reader = record { spare = spare; reader = reader }
 
-pub returns-then-spare-ne-TABLES_SIZE : goal.returns-then-spare-ne-TABLES_SIZE
-returns-then-spare-ne-TABLES_SIZE c =
-    rw (read_length (reading c.args.spare.now c.args.reader.now) c.args.row.now c.if-spare-ne-TABLES_SIZE.true) (record { reply = refl; state = refl })
+pub returns-in_default : goal.returns-in_default
+returns-in_default c =
+    rw (read_length (reading c.args.spare.now c.args.reader.now) c.args.row.now c.in_default.ensures.cases) (record { reply = refl; state = refl })
 
 pub returns-then-not-read_row : goal.returns-then-not-read_row
 returns-then-not-read_row c =
-    rw (read_refused (reading c.args.spare.now c.args.reader.now) c.args.row.now (omega arith) _ c.read_row.result c.read_row.ensures c.if-not-read_row.true)
+    let was = c.in-Some.ensures.cases in
+    rw (read_refused (reading c.args.spare.now c.args.reader.now) c.args.row.now was.long _ c.read_row.result (rw was.same at c.read_row.ensures) c.if-not-read_row.true)
     c.refuse_reading.ensures
 
 -- where the blocks of a row that was read end
@@ -26,11 +27,12 @@ within spare row first after read passes = row_ends (reading spare first) row (r
 
 pub returns : goal.returns
 returns c =
-    rw (read_done (reading c.args.spare.now c.args.reader.now) c.args.row.now (omega arith) _ c.read_row.result c.read_row.ensures c.if-not-read_row.false)
+    let was = c.in-Some.ensures.cases in
+    rw (read_done (reading c.args.spare.now c.args.reader.now) c.args.row.now was.long _ c.read_row.result (rw was.same at c.read_row.ensures) c.if-not-read_row.false)
     (record { reply = refl; state = refl })
 
 pub overflow_cast-reader : goal.overflow_cast-reader
-overflow_cast-reader c = let l = within c.args.spare.now c.args.row.now c.args.reader.now _ c.read_row.ensures c.if-not-read_row.false in search rules
+overflow_cast-reader c = let l = within c.in-Some.spare.now c.args.row.now c.args.reader.now _ c.read_row.ensures c.if-not-read_row.false in search rules
 
 pub overflow_add-reader : goal.overflow_add-reader
-overflow_add-reader c = let l = within c.args.spare.now c.args.row.now c.args.reader.now _ c.read_row.ensures c.if-not-read_row.false in search rules
+overflow_add-reader c = let l = within c.in-Some.spare.now c.args.row.now c.args.reader.now _ c.read_row.ensures c.if-not-read_row.false in search rules

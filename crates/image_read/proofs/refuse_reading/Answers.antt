@@ -7,5 +7,5 @@ returns c =
       reply = refl;
       state =
           ap (λ (l : List ℕ). record { spare = l; reader = 0 })
-          (c.clear.ensures ∙ ap (λ (n : ℕ). replicate {A = ℕ} n 0) c.requires);
+          (c.clear.ensures ∙ ap (λ (n : ℕ). replicate {A = ℕ} n 0) c.told-spare);
     }

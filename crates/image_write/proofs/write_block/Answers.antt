@@ -11,6 +11,6 @@ returns c =
     let a = c.args in
     let room = content_room a.tables.now (record_of a.n) in
     block_written a.n (kept_content a.tables.now (record_of a.n)) (omega arith)
-    (c.clear.ensures ∙ ap (λ (k : ℕ). replicate k 0) c.requires.1)
+    (c.clear.ensures ∙ ap (λ (k : ℕ). replicate k 0) c.told-block)
     (after number_size a.n refl c.write_u32.ensures c.write_content.ensures)
     (rw c.block_check-check.ensures at c.write_u16.ensures)

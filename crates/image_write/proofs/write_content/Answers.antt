@@ -43,28 +43,28 @@ unfolding kept_content preface place_of kept_size
 returns-in-Past c = rw (← c.record_of.ensures, c.in-Past.is) (record { is = refl; kept = refl })
 
 pub overflow_mul-k : goal.overflow_mul-k
-overflow_mul-k c = let k = file_slot_lem c in record { fits = omega arith }
+overflow_mul-k c = let k = file_slot_lem (goal.at.overflow_mul-k c).In-FileSlot in record { fits = omega arith }
 
 pub overflow_add-k : goal.overflow_add-k
-overflow_add-k c = let k = file_slot_lem c in record { fits = omega arith }
+overflow_add-k c = let k = file_slot_lem (goal.at.overflow_add-k c).In-FileSlot in record { fits = omega arith }
 
 pub copy_part-requires : goal.copy_part-requires
 copy_part-requires c = let k = file_slot_lem (goal.at.copy_part-requires c).In-FileSlot in (omega arith, omega arith)
 
 pub overflow_mul-k-in-LinkSlot : goal.overflow_mul-k-in-LinkSlot
-overflow_mul-k-in-LinkSlot c = let k = link_slot_lem c in record { fits = omega arith }
+overflow_mul-k-in-LinkSlot c = let k = link_slot_lem (goal.at.overflow_mul-k-in-LinkSlot c).In-LinkSlot in record { fits = omega arith }
 
 pub overflow_add-k-in-LinkSlot : goal.overflow_add-k-in-LinkSlot
-overflow_add-k-in-LinkSlot c = let k = link_slot_lem c in record { fits = omega arith }
+overflow_add-k-in-LinkSlot c = let k = link_slot_lem (goal.at.overflow_add-k-in-LinkSlot c).In-LinkSlot in record { fits = omega arith }
 
 pub copy_part-requires-in-LinkSlot : goal.copy_part-requires-in-LinkSlot
 copy_part-requires-in-LinkSlot c = let k = link_slot_lem (goal.at.copy_part-requires-in-LinkSlot c).In-LinkSlot in (omega arith, omega arith)
 
 pub overflow_mul-k-in-StreamSlot : goal.overflow_mul-k-in-StreamSlot
-overflow_mul-k-in-StreamSlot c = let k = stream_slot_lem c in record { fits = omega arith }
+overflow_mul-k-in-StreamSlot c = let k = stream_slot_lem (goal.at.overflow_mul-k-in-StreamSlot c).In-StreamSlot in record { fits = omega arith }
 
 pub overflow_add-k-in-StreamSlot : goal.overflow_add-k-in-StreamSlot
-overflow_add-k-in-StreamSlot c = let k = stream_slot_lem c in record { fits = omega arith }
+overflow_add-k-in-StreamSlot c = let k = stream_slot_lem (goal.at.overflow_add-k-in-StreamSlot c).In-StreamSlot in record { fits = omega arith }
 
 pub copy_part-requires-in-StreamSlot : goal.copy_part-requires-in-StreamSlot
 copy_part-requires-in-StreamSlot c = let k = stream_slot_lem (goal.at.copy_part-requires-in-StreamSlot c).In-StreamSlot in (omega arith, omega arith)

@@ -1,89 +1,76 @@
-use Rattle.base.{specs.Base.{◌+◌, ◌-◌, ◌<◌, ◌≤◌, ◌≡◌, true, length}, proofs.Laws.{refl, sym, ◌∙◌, arith, rules, length-take, length-drop}}
+use Rattle.base.{specs.Base.{◌+◌, ◌-◌, ◌*◌, ◌<◌, ◌≤◌, ◌≡◌, true, false, length}, proofs.Laws.{refl, sym, ◌∙◌, arith, rules, ne_eqb, length-take, length-drop}}
 use Rattle.audit.specs.Sound.{sound_bytes}
 use Rattle.image.specs.Blocks.{block_size}
-use Rattle.layout.{proofs.Tables.stands_length}
-use Rattle.little_endian.specs.LittleEndian.{Bytes}
+use Rattle.layout.{specs.Layout.{tables_size}, proofs.Stands.tables_stand}
 use Rattle.image_laws.proofs.SavedSound.{sound_stands}
 use Rattle.image_write.proofs.{Kept.kept_block_lem, Rows.{Room, room, writing_begins, writing-long, next_room, next_block, writing_turn, writing_ends, unsound, no_room, filled}}
 use Rattle.image_write.proofs.write_image.Goals as goal
-use Rattle.image_write.proofs.write_image.Goals.{At-loop-at}
 
-pub returns-then-not-sound : goal.returns-then-not-sound
-returns-then-not-sound c =
+pub returns-in_default : goal.returns-in_default
+unfolding sound_bytes
+returns-in_default c =
     let a = c.args in
-    rw (unsound a.tables.now a.first a.row.now (sym c.audit-sound.ensures ∙ c.if-not-sound.true))
+    rw (unsound a.tables.now a.first a.row.now (rw (tables_stand a.tables.now, ne_eqb (length a.tables.now) tables_size c.in_default.ensures.cases)))
     (record { reply = refl; state = refl })
 
--- the tables are sound once the first test has passed
-sound : (c : At-loop-at) → sound_bytes c.args.tables.now ≡ true
-sound c = sym c.audit-sound.ensures ∙ c.if-not-sound.false
-
-pub returns-then-not-fits : goal.returns-then-not-fits
-returns-then-not-fits c =
+pub returns-then-not-audit : goal.returns-then-not-audit
+returns-then-not-audit c =
     let a = c.args in
-    let sound_found : c.audit-sound.result ≡ true = search rules in
-    rw (no_room a.tables.now a.first a.row.now (sym c.audit-sound.ensures ∙ sound_found)
-    (sym c.row_fits-fits.ensures ∙ c.if-not-fits.true))
+    rw (unsound a.tables.now a.first a.row.now (rw c.in-Some.ensures.cases.same at (sym c.audit.ensures ∙ c.if-not-audit.true)))
     (record { reply = refl; state = refl })
 
--- and the row has room once the second has
-fits : (c : At-loop-at)
-    → let a = c.args in Room a.first (length a.row.now)
-fits c = room _ _ (sym c.row_fits-fits.ensures ∙ c.if-not-fits.false)
+pub returns-then-not-row_fits : goal.returns-then-not-row_fits
+returns-then-not-row_fits c =
+    let a = c.args in
+    rw (no_room a.tables.now a.first a.row.now (rw c.in-Some.ensures.cases.same at (sym c.audit.ensures ∙ c.if-not-audit.false))
+    (sym c.row_fits.ensures ∙ c.if-not-row_fits.true))
+    (record { reply = refl; state = refl })
 
--- in a turn there is room for a block of the image
-module _ (c : At-loop-at) (ahead : c.loop-at.at < length c.args.row.now) where
-  whole : c.loop-at.at + block_size ≤ length c.loop-at.row
-  whole = omega (arith, next_room (fits c) c.loop-at.invariant ahead, writing-long c.loop-at.invariant)
+pub loop-i-init : goal.loop-i-init
+loop-i-init c = let e : c.args.first + 0 ≡ c.args.first = omega arith in rw e (writing_begins _ _ _)
 
-pub write_block-requires : goal.write_block-requires
-write_block-requires c =
-    let tables = c.args.tables.now in
-    let l = (goal.at.write_block-requires c).At-loop-at in
-    let room = whole l (omega (arith, writing-long c.loop-at.invariant)) in (
-      stands_length tables (sound_stands tables (sound l)),
-      simp (length-take, length-drop) (omega arith),
-    )
-
-pub loop-at-preserved : goal.loop-at-preserved
-loop-at-preserved c =
-    let tables = c.args.tables.now in
-    let l = (goal.at.loop-at-preserved c).At-loop-at in
-    let ahead : c.loop-at.at < length c.args.row.now = omega (arith, writing-long c.loop-at.invariant) in
-    let room = whole l ahead in
-    let bytes : Bytes tables = λ i. omega (arith, c.type_inv.tables i) in
-    let is = c.write_block.ensures ∙ kept_block_lem tables bytes (sound_stands tables (sound l)) c.loop-at.n in
-    let long = c.write_block.auto.block in
-    writing_turn (fits l) c.loop-at.invariant (c.loop-at.at + block_size - c.loop-at.at) ahead (omega arith)
-    (long ∙ (simp (length-take, length-drop) (omega arith))) is
+pub loop-i-preserved : goal.loop-i-preserved
+loop-i-preserved c =
+    let l = c.loop-i in
+    let has = room c.args.first (length c.args.row.now) (sym c.row_fits.ensures ∙ c.if-not-row_fits.false) in
+    let n : c.args.first + (l.i + 1) ≡ c.args.first + l.i + 1 = omega arith in
+    let at : block_size * (l.i + 1) ≡ block_size * l.i + block_size = omega arith in
+    rw (n, at)
+    (writing_turn has l.invariant (block_size * l.i + block_size - block_size * l.i) (omega (arith, has.whole, c.loop-i-test.true)) (omega arith)
+    (c.write_part.auto.part ∙ simp (length-take, length-drop) (omega (arith, writing-long l.invariant, has.whole, c.loop-i-test.true)))
+    (c.write_part.ensures
+    ∙ rw c.in-Some.ensures.cases.same (kept_block_lem c.args.tables.now (λ i. omega (arith, c.type_inv.tables i)) (sound_stands c.args.tables.now (rw c.in-Some.ensures.cases.same at (sym c.audit.ensures ∙ c.if-not-audit.false))) (c.args.first + l.i))))
 
 pub returns : goal.returns
 returns c =
     let a = c.args in
-    let l = (goal.at.returns c).At-loop-at in
-    rw (filled a.tables.now a.first a.row.now (sound l)
-    (sym c.row_fits-fits.ensures ∙ c.if-not-fits.false))
-    (record { reply = refl; state = writing_ends (fits l) c.loop-at.invariant (omega (arith, writing-long c.loop-at.invariant)) })
+    let same = c.in-Some.ensures.cases.same in
+    let fits = sym c.row_fits.ensures ∙ c.if-not-row_fits.false in
+    let has = room a.first (length a.row.now) fits in
+    rw (filled a.tables.now a.first a.row.now (rw same at (sym c.audit.ensures ∙ c.if-not-audit.false)) fits)
+    (record { reply = refl; state = rw same at (writing_ends has c.loop-i.invariant (omega (arith, has.whole, c.loop-i-test.false))) })
 
-pub loop-at-init : goal.loop-at-init
-loop-at-init c = writing_begins _ _ _
+pub write_part-requires : goal.write_part-requires
+write_part-requires c =
+    let has = room c.args.first (length c.args.row.now) (sym c.row_fits.ensures ∙ c.if-not-row_fits.false) in
+    let long = writing-long c.loop-i.invariant in
+    simp (length-take, length-drop) (omega (arith, long, has.whole, c.loop-i-test.true))
 
-pub overflow_add-next : goal.overflow_add-next
-overflow_add-next c =
-    let l = (goal.at.overflow_add-next c).At-loop-at in
-    record { fits = omega (arith, next_block (fits l) c.loop-at.invariant (omega (arith, writing-long c.loop-at.invariant))) }
+pub overflow_mul-at : goal.overflow_mul-at
+overflow_mul-at c = record { fits = omega arith }
 
 pub overflow_add-end : goal.overflow_add-end
-overflow_add-end c =
-    let room = whole (goal.at.overflow_add-end c).At-loop-at (omega (arith, writing-long c.loop-at.invariant)) in
-    record { fits = omega arith }
+overflow_add-end c = record { fits = omega arith }
 
-pub slice_bounds-write_block-end : goal.slice_bounds-write_block-end
-slice_bounds-write_block-end c =
-    whole (goal.at.slice_bounds-write_block-end c).At-loop-at (omega (arith, writing-long c.loop-at.invariant))
+pub overflow_cast-i : goal.overflow_cast-i
+overflow_cast-i c =
+    let has = room c.args.first (length c.args.row.now) (sym c.row_fits.ensures ∙ c.if-not-row_fits.false) in
+    record { fits = omega (arith, has.last, c.loop-i-test.true) }
 
-pub loop-at-smaller : goal.loop-at-smaller
-loop-at-smaller c = omega (arith, writing-long c.loop-at.invariant)
+pub overflow_add-first : goal.overflow_add-first
+overflow_add-first c =
+    let has = room c.args.first (length c.args.row.now) (sym c.row_fits.ensures ∙ c.if-not-row_fits.false) in
+    record { fits = omega (arith, has.last, c.loop-i-test.true) }
 
 pub shape_of-row : goal.shape_of-row
-shape_of-row c = writing-long c.loop-at.invariant
+shape_of-row c = writing-long c.loop-i.invariant

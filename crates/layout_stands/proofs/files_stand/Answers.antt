@@ -1,25 +1,16 @@
-use Rattle.base.{specs.Base.{file_slots}, proofs.Laws.{sym, ◌∙◌, arith}}
-use Rattle.codecs.proofs.Standing.{standing_begins, standing_turn, standing_fails, standing_ends}
-use Rattle.layout.{specs.{Records.file_codec}, proofs.Stands.file_stands_at}
+-- Each file by its number.
+use Rattle.std.proofs.Common.{rules, refl}
+use Rattle.std.proofs.lemmas.Iterator.{YieldsList-from_range}
+use Rattle.std.proofs.lemmas.Iterator.Search.{all_from_yields_List}
+use Rattle.base.{specs.Base.{ℕ, Bool, file_slots, ◌+◌, ◌*◌}, proofs.Laws.{sym, ◌∙◌}}
+use Rattle.codecs.proofs.Standing.{row_tested}
+use Rattle.layout.{specs.{Records.file_codec, Layout.{files_at, file_size}}, proofs.Stands.file_stands_at}
+use Rattle.little_endian.specs.LittleEndian.{part}
 use Rattle.layout_stands.proofs.files_stand.Goals as goal
 
-pub loop-i-init : goal.loop-i-init
-loop-i-init c = standing_begins file_codec file_slots _
-
-pub returns-then-not-file_stands : goal.returns-then-not-file_stands
-returns-then-not-file_stands c =
-    let b = c.args.b.now in
-    sym
-    (standing_fails file_codec file_slots _ c.loop-i.i (omega arith)
-    (file_stands_at b c.loop-i.i (omega arith) ∙ rw (← c.file_stands.ensures) c.if-not-file_stands.true)
-    c.loop-i.invariant)
-
-pub loop-i-preserved : goal.loop-i-preserved
-loop-i-preserved c =
-    let b = c.args.b.now in
-    standing_turn file_codec file_slots _ c.loop-i.i (omega arith)
-    (file_stands_at b c.loop-i.i (omega arith) ∙ rw (← c.file_stands.ensures) c.if-not-file_stands.false)
-    c.loop-i.invariant
-
 pub returns : goal.returns
-returns c = sym (standing_ends file_codec file_slots _ c.loop-i.i (omega arith) c.loop-i.invariant)
+returns c =
+    let b = c.args.b.now in
+    let test : ℕ → Bool = λ i. file_codec.stands (part b (files_at + file_size * i) file_size) in
+    all_from_yields_List test _ _ _ c.all.ensures.ran (YieldsList-from_range 0 file_slots _ refl refl) (λ x d q k. search rules)
+    ∙ row_tested file_codec test file_slots _ (λ i l. sym (file_stands_at b i l))

@@ -1,25 +1,16 @@
-use Rattle.base.{specs.Base.{stream_slots}, proofs.Laws.{sym, ◌∙◌, arith}}
-use Rattle.codecs.proofs.Standing.{standing_begins, standing_turn, standing_fails, standing_ends}
-use Rattle.layout.{specs.{Records.stream_codec}, proofs.Stands.stream_stands_at}
+-- Each stream by its number.
+use Rattle.std.proofs.Common.{rules, refl}
+use Rattle.std.proofs.lemmas.Iterator.{YieldsList-from_range}
+use Rattle.std.proofs.lemmas.Iterator.Search.{all_from_yields_List}
+use Rattle.base.{specs.Base.{ℕ, Bool, stream_slots, ◌+◌, ◌*◌}, proofs.Laws.{sym, ◌∙◌}}
+use Rattle.codecs.proofs.Standing.{row_tested}
+use Rattle.layout.{specs.{Records.stream_codec, Layout.{streams_at, stream_size}}, proofs.Stands.stream_stands_at}
+use Rattle.little_endian.specs.LittleEndian.{part}
 use Rattle.layout_stands.proofs.streams_stand.Goals as goal
 
-pub loop-i-init : goal.loop-i-init
-loop-i-init c = standing_begins stream_codec stream_slots _
-
-pub returns-then-not-stream_stands : goal.returns-then-not-stream_stands
-returns-then-not-stream_stands c =
-    let b = c.args.b.now in
-    sym
-    (standing_fails stream_codec stream_slots _ c.loop-i.i (omega arith)
-    (stream_stands_at b c.loop-i.i (omega arith) ∙ rw (← c.stream_stands.ensures) c.if-not-stream_stands.true)
-    c.loop-i.invariant)
-
-pub loop-i-preserved : goal.loop-i-preserved
-loop-i-preserved c =
-    let b = c.args.b.now in
-    standing_turn stream_codec stream_slots _ c.loop-i.i (omega arith)
-    (stream_stands_at b c.loop-i.i (omega arith) ∙ rw (← c.stream_stands.ensures) c.if-not-stream_stands.false)
-    c.loop-i.invariant
-
 pub returns : goal.returns
-returns c = sym (standing_ends stream_codec stream_slots _ c.loop-i.i (omega arith) c.loop-i.invariant)
+returns c =
+    let b = c.args.b.now in
+    let test : ℕ → Bool = λ i. stream_codec.stands (part b (streams_at + stream_size * i) stream_size) in
+    all_from_yields_List test _ _ _ c.all.ensures.ran (YieldsList-from_range 0 stream_slots _ refl refl) (λ x d q k. search rules)
+    ∙ row_tested stream_codec test stream_slots _ (λ i l. sym (stream_stands_at b i l))

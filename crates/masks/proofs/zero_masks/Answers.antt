@@ -1,32 +1,14 @@
-use Rattle.base.{specs.Base.{ℕ, replicate, accounts}, proofs.Laws.{refl, sym, ◌∙◌, arith, get_or-replicate, same-lengths, same_next, same_stops, same_end}}
+use Rattle.base.{specs.Base.{ℕ, ◌≡◌, List, [], ◌∷◌, ◌&&◌, Bool, eqb, same}, proofs.Laws.{refl, ap, ◌∙◌}}
+use Rattle.std.specs.Cmp.Lexicographic.{pointwise}
 use Rattle.masks.proofs.zero_masks.Goals as goal
 
-pub returns-then-masks-ne-ACCOUNTS : goal.returns-then-masks-ne-ACCOUNTS
-returns-then-masks-ne-ACCOUNTS c = sym (same-lengths c.args.masks.now (replicate accounts 0) c.if-masks-ne-ACCOUNTS.true)
-
-pub returns-then-masks-i-ne0 : goal.returns-then-masks-i-ne0
-returns-then-masks-i-ne0 c =
-    let l = c in
-    let z = get_or-replicate {A = ℕ} accounts l.loop-i.i 0 0 (omega arith) in
-    sym
-    (l.loop-i.invariant
-    ∙ same_stops l.args.masks.now (replicate accounts 0) l.loop-i.i 0 0 (omega arith) (omega arith)
-    (λ e. c.if-masks-i-ne0.true (e ∙ z)))
-
-pub loop-i-preserved : goal.loop-i-preserved
-loop-i-preserved c =
-    let l = c in
-    let z = get_or-replicate {A = ℕ} accounts l.loop-i.i 0 0 (omega arith) in
-    l.loop-i.invariant
-    ∙ same_next l.args.masks.now (replicate accounts 0) l.loop-i.i 0 0 (omega arith) (omega arith)
-    (c.if-masks-i-ne0.false ∙ sym z)
+-- equality of the library, element by element, is that of the definitions
+pointwise_same : (xs ys : List ℕ) → pointwise eqb xs ys ≡ same xs ys
+unfolding same
+pointwise_same [] [] = refl
+pointwise_same [] (y ∷ ys) = refl
+pointwise_same (x ∷ xs) [] = refl
+pointwise_same (x ∷ xs) (y ∷ ys) = ap (λ (b : Bool). eqb x y && b) (pointwise_same xs ys)
 
 pub returns : goal.returns
-returns c =
-    let l = c in
-    sym
-    (l.loop-i.invariant
-    ∙ same_end l.args.masks.now (replicate accounts 0) l.loop-i.i (omega arith) (omega arith))
-
-pub loop-i-init : goal.loop-i-init
-loop-i-init c = refl
+returns c = c.eq.ensures ∙ pointwise_same c.args.masks.now c.as_slice.result.now ∙ ap (same c.args.masks.now) c.as_slice.ensures

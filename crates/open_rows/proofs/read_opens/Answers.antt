@@ -1,10 +1,10 @@
-use Rattle.base.{specs.Base.{open_slots, zero_open, Open}, proofs.Laws.{sym, ◌∙◌, arith, length-replicate, copied_none, copied_next, copied_all}}
+use Rattle.base.{specs.Base.{zero_open}, proofs.Laws.{arith, copied_none, copied_next, copied_all}}
 use Rattle.layout.{proofs.Lengths.opens_count}
 use Rattle.tables.specs.Tables.{row_at}
 use Rattle.open_rows.proofs.read_opens.Goals as goal
 
 pub loop-i-init : goal.loop-i-init
-loop-i-init c = copied_none (length-replicate {A = Open} open_slots zero_open ∙ sym (opens_count c.args.b.now))
+loop-i-init c = let n = opens_count c.args.b.now in copied_none (omega arith)
 
 pub loop-i-preserved : goal.loop-i-preserved
 unfolding row_at

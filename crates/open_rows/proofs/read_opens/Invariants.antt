@@ -1,10 +1,7 @@
 -- A turn of the loop reads one open more.
-use Rattle.base.{specs.Base.{◌-◌, open_slots}, proofs.Laws.{Copied}}
+use Rattle.base.{proofs.Laws.{Copied}}
 use Rattle.layout.{specs.Layout.decode}
 use Rattle.open_rows.proofs.read_opens.Given as goal
 
 abbrev pub invariant-loop-i : goal.invariant-loop-i
 invariant-loop-i l = Copied (decode l.b).opens.rows l.rows l.i
-
-abbrev pub decreases-loop-i : goal.decreases-loop-i
-decreases-loop-i l = open_slots - l.i

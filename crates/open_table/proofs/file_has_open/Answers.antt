@@ -1,36 +1,9 @@
-use Rattle.base.{specs.Base.{open_used}, proofs.Laws.{sym, arith, ne_eqb}}
-use Rattle.tables.specs.Tables.{any_on_file}
-use Rattle.open_table.proofs.Asked.{asked_begins, asked_found, asked_free, asked_other, asked_ends}
+use Rattle.std.proofs.Common.{rules}
+use Rattle.base.specs.Base.{eqb}
+use Rattle.tables.specs.Tables.{row_at, any_on_file}
+use Rattle.open_table.proofs.Asked.{asked_is}
 use Rattle.open_table.proofs.file_has_open.Goals as goal
-use Rattle.open_table.proofs.file_has_open.Goals.{else-read_open_file-f-via-then-read_open_file-f+else-read_handle-ne0, else-read_open_file-f-via-else-read_open_file-f}
-use Rattle.open_table.proofs.file_has_open.Invariants.{key}
-
-pub returns-then-read_handle-ne0 : goal.returns-then-read_handle-ne0
-unfolding any_on_file open_used
-returns-then-read_handle-ne0 c =
-    let a = c.args in
-    sym
-    (asked_found key a.f.0 a.b.now c.loop-i.i c.loop-i.invariant (omega arith) (rw (← c.read_handle.ensures, ne_eqb _ _ c.if-read_handle-ne0.true))
-    (rw (← c.read_open_file.ensures) c.if-read_open_file-f.true))
-
-pub loop-i-preserved : goal.loop-i-preserved
-unfolding open_used
-loop-i-preserved c =
-    let a = c.args in
-    elim c.else-read_open_file-f.branch [
-      | else-read_open_file-f-via-then-read_open_file-f+else-read_handle-ne0 w ↦
-          asked_free key a.f.0 a.b.now c.loop-i.i c.loop-i.invariant (omega arith)
-          (rw (← w.read_handle.ensures, w.if-read_handle-ne0.false))
-      | else-read_open_file-f-via-else-read_open_file-f w ↦
-          asked_other key a.f.0 a.b.now c.loop-i.i c.loop-i.invariant (omega arith)
-          (rw (← c.read_open_file.ensures) w.if-read_open_file-f.false)
-    ]
 
 pub returns : goal.returns
-unfolding any_on_file
-returns c =
-    let a = c.args in
-    sym (asked_ends key a.f.0 a.b.now c.loop-i.i c.loop-i.invariant (omega arith))
-
-pub loop-i-init : goal.loop-i-init
-loop-i-init c = asked_begins key _ _
+unfolding row_at any_on_file
+returns c = asked_is (λ o. eqb o.file.0 c.args.f.0) _ _ (λ i b h. search rules) c.has_open.ensures

@@ -11,18 +11,18 @@ returns-then-is_data_type c =
     let typed : equal_units true (part_of c.args.path.now (past c.args.rest c.find_sign-colon.result)) data_type ≡ c.is_data_type.result = rw (← c.part_of.ensures) (sym c.is_data_type.ensures) in
     stream_typed f c.args.file c.if-colon-units.true (typed ∙ c.if-is_data_type.true)
 
-pub returns-then-colon-units : goal.returns-then-colon-units
-returns-then-colon-units c =
+pub returns-else-is_data_type : goal.returns-else-is_data_type
+returns-else-is_data_type c =
     let f : Searched colon c.args.path.now c.args.rest c.units_before-units.result.now c.find_sign-colon.result = record { before = c.units_before-units.ensures; found = c.find_sign-colon.ensures } in
     let typed : equal_units true (part_of c.args.path.now (past c.args.rest c.find_sign-colon.result)) data_type ≡ c.is_data_type.result = rw (← c.part_of.ensures) (sym c.is_data_type.ensures) in
     stream_untyped f c.args.file c.if-colon-units.true (typed ∙ c.if-is_data_type.false)
 
-pub returns-then-start-colon : goal.returns-then-start-colon
-returns-then-start-colon c =
+pub returns-then-rest-colon : goal.returns-then-rest-colon
+returns-then-rest-colon c =
     let f : Searched colon c.args.path.now c.args.rest c.units_before-units.result.now c.find_sign-colon.result = record { before = c.units_before-units.ensures; found = c.find_sign-colon.ensures } in
-    stream_empty f c.args.file c.if-colon-units.false c.if-start-colon.true
+    stream_empty f c.args.file c.if-colon-units.false c.if-rest-colon.true
 
-pub returns : goal.returns
-returns c =
+pub returns-else-rest-colon : goal.returns-else-rest-colon
+returns-else-rest-colon c =
     let f : Searched colon c.args.path.now c.args.rest c.units_before-units.result.now c.find_sign-colon.result = record { before = c.units_before-units.ensures; found = c.find_sign-colon.ensures } in
-    stream_only f c.args.file c.if-colon-units.false c.if-start-colon.false
+    stream_only f c.args.file c.if-colon-units.false c.if-rest-colon.false

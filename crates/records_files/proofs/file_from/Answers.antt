@@ -9,8 +9,8 @@ returns c =
       file-parts a.b.now a.at,
       ← (mark_test _),
       c.read_words.ensures,
-      c.kind_of-file_type.ensures,
-      c.read_u32-attributes.ensures,
+      c.kind_of.ensures,
+      c.read_u32.ensures,
       c.read_u16.ensures,
-      c.read_u16-delete_pending.ensures,
+      c.read_u16-2.ensures,
     )

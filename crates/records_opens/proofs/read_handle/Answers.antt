@@ -5,14 +5,15 @@ use Rattle.layout.proofs.{Fields.{open_field, handle_in}, InPlace.{in_place, ope
 use Rattle.tables.specs.Tables.{row_at}
 use Rattle.records_opens.proofs.read_handle.Goals as goal
 
-pub returns-then-n-lt-OPEN_SLOTS : goal.returns-then-n-lt-OPEN_SLOTS
+pub returns-in-Some : goal.returns-in-Some
 unfolding row_at
-returns-then-n-lt-OPEN_SLOTS c =
+returns-in-Some c =
     let a = c.args in
-    rw c.read_u64.ensures (sym (in_place (inner_first (open_field a.n (omega arith)) handle_in) a.b.now (omega arith)))
+    let place = c.in-Some.ensures in
+    rw (c.read_u64.ensures, place.is) (sym (in_place (inner_first (open_field a.n place.within) handle_in) a.b.now (omega arith)))
 
-pub returns-else-n-lt-OPEN_SLOTS : goal.returns-else-n-lt-OPEN_SLOTS
+pub returns-in-None : goal.returns-in-None
 unfolding row_at
-returns-else-n-lt-OPEN_SLOTS c =
+returns-in-None c =
     let a = c.args in
-    sym (ap (λ (o : Open). o.handle) (open_past a.b.now a.n (omega arith)))
+    sym (ap (λ (o : Open). o.handle) (open_past a.b.now a.n c.in-None.ensures))

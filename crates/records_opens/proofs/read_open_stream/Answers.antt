@@ -5,14 +5,15 @@ use Rattle.layout.proofs.{Fields.{open_field, open_stream_in}, InPlace.{in_place
 use Rattle.tables.specs.Tables.{row_at}
 use Rattle.records_opens.proofs.read_open_stream.Goals as goal
 
-pub returns-then-n-lt-OPEN_SLOTS : goal.returns-then-n-lt-OPEN_SLOTS
+pub returns-in-Some : goal.returns-in-Some
 unfolding row_at
-returns-then-n-lt-OPEN_SLOTS c =
+returns-in-Some c =
     let a = c.args in
-    rw c.read_u16.ensures (sym (in_place (inner (open_field a.n (omega arith)) open_stream_in) a.b.now (omega arith)))
+    let place = c.in-Some.ensures in
+    rw (c.read_u16.ensures, place.is) (sym (in_place (inner (open_field a.n place.within) open_stream_in) a.b.now (omega arith)))
 
-pub returns-else-n-lt-OPEN_SLOTS : goal.returns-else-n-lt-OPEN_SLOTS
+pub returns-in-None : goal.returns-in-None
 unfolding row_at
-returns-else-n-lt-OPEN_SLOTS c =
+returns-in-None c =
     let a = c.args in
-    sym (ap (λ (o : Open). o.stream) (open_past a.b.now a.n (omega arith)))
+    sym (ap (λ (o : Open). o.stream) (open_past a.b.now a.n c.in-None.ensures))

@@ -5,14 +5,15 @@ use Rattle.layout.proofs.{Fields.{stream-field, stream_file_in}, InPlace.{in_pla
 use Rattle.tables.specs.Tables.{stream_at}
 use Rattle.records_streams.proofs.read_stream_file.Goals as goal
 
-pub returns-then-i-lt-STREAM_SLOTS : goal.returns-then-i-lt-STREAM_SLOTS
+pub returns-in-Some : goal.returns-in-Some
 unfolding stream_at
-returns-then-i-lt-STREAM_SLOTS c =
+returns-in-Some c =
     let a = c.args in
-    rw c.read_u16.ensures (sym (in_place (inner (stream-field a.n.0 (omega arith)) stream_file_in) a.b.now (omega arith)))
+    let place = c.in-Some.ensures in
+    rw (c.read_u16.ensures, place.is) (sym (in_place (inner (stream-field a.n.0 place.within) stream_file_in) a.b.now (omega arith)))
 
-pub returns-else-i-lt-STREAM_SLOTS : goal.returns-else-i-lt-STREAM_SLOTS
+pub returns-in-None : goal.returns-in-None
 unfolding stream_at
-returns-else-i-lt-STREAM_SLOTS c =
+returns-in-None c =
     let a = c.args in
-    sym (ap (λ (s : Stream). s.file) (stream_past a.b.now a.n.0 (omega arith)))
+    sym (ap (λ (s : Stream). s.file) (stream_past a.b.now a.n.0 c.in-None.ensures))

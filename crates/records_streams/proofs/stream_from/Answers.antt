@@ -9,9 +9,9 @@ returns c =
       stream-parts a.b.now a.at,
       c.read_units.ensures,
       ← (mark_test _),
-      c.read_u16-delete_pending.ensures,
-      c.counts_from-counts.ensures,
-      c.read_u16-2.ensures,
-      c.kind_of-stream_type.ensures,
+      c.read_u16-3.ensures,
+      c.counts_from.ensures,
       c.read_u16.ensures,
+      c.kind_of.ensures,
+      c.read_u16-2.ensures,
     )

@@ -1,22 +1,21 @@
-use Rattle.base.{proofs.Laws.{refl, sym, ◌∙◌, arith, le-leb, lt-leb, all_fails, all_next, all_end}}
+use Rattle.base.{specs.Base.{ℕ, Bool, ◌≡◌, List, [], ◌∷◌, ◌&&◌, drop, all}, proofs.Laws.{refl, ap, ◌∙◌, rules}}
+use borrow.Author.Tests.{tests}
+use Rattle.std.specs.List.{list_all}
+use Rattle.std.proofs.lemmas.Iterator.{YieldsList-from_slice}
+use Rattle.std.proofs.lemmas.Iterator.Adapters.{YieldsList-from_skip}
+use Rattle.std.proofs.lemmas.Iterator.Search.{all_from_yields_List}
 use Rattle.script_lines.specs.Lines.{is_ascii}
 use Rattle.script_lines.proofs.ascii_from.Goals as goal
 
-pub returns-then-line-at-gt127 : goal.returns-then-line-at-gt127
-unfolding is_ascii
-returns-then-line-at-gt127 c =
-    let a = c.args in
-    sym (c.loop-at.invariant ∙ all_fails is_ascii a.line.now c.loop-at.at 0 (omega arith) (lt-leb _ 0x7F c.if-line-at-gt127.true))
-
-pub loop-at-preserved : goal.loop-at-preserved
-unfolding is_ascii
-loop-at-preserved c =
-    let a = c.args in
-    c.loop-at.invariant ∙ all_next is_ascii a.line.now c.loop-at.at 0 (omega arith) (le-leb _ 0x7F c.if-line-at-gt127.false)
+all_is : (p : ℕ → Bool) (xs : List ℕ) → list_all p xs ≡ all p xs
+unfolding all
+all_is p [] = refl
+all_is p (x ∷ xs) = ap (λ (b : Bool). p x && b) (all_is p xs)
 
 pub returns : goal.returns
+unfolding is_ascii
 returns c =
-    sym (c.loop-at.invariant ∙ all_end is_ascii c.args.line.now c.loop-at.at c.loop-at-test.false)
-
-pub loop-at-init : goal.loop-at-init
-loop-at-init c = refl
+    let a = c.args in
+    all_from_yields_List is_ascii _ _ _ c.all.ensures.ran
+    (YieldsList-from_skip a.from (YieldsList-from_slice a.line.now cc) cc) (λ x b q k. search (rules, tests))
+    ∙ all_is is_ascii (drop a.from a.line.now)

@@ -1,4 +1,4 @@
-use Rattle.base.{specs.Base.{◌-◌, ◌+◌, ◌*◌, ◌≤◌, ◌≡◌, true, get_or}, proofs.Laws.{refl, sym, ◌∙◌, arith}}
+use Rattle.base.{specs.Base.{◌+◌, ◌*◌, ◌≤◌, ◌≡◌, true, get_or}, proofs.Laws.{refl, sym, ◌∙◌, arith}}
 use borrow.Author.Tests.{leb-true}
 use Rattle.script_lines.proofs.{Reading.{digit_low, digits_end, digits_stop, digits_over, digits_next}}
 use Rattle.script_lines.specs.{Lines.{is_digit}, Found.as_number}
@@ -22,36 +22,34 @@ pub returns-then-not-fits : goal.returns-then-not-fits
 unfolding as_number
 returns-then-not-fits c =
     let a = c.args in
+    let full = rw c.from-digit.ensures at (sym c.fits.ensures ∙ c.if-not-fits.true) in
     sym
     (c.loop-at.invariant
-    ∙ digits_over a.most c.loop-at.value a.line.now c.loop-at.at (omega arith) (is (goal.at.returns-then-not-fits c).Else-not-is_digit) (sym c.fits.ensures ∙ c.if-not-fits.true))
+    ∙ digits_over a.most c.loop-at.value a.line.now c.loop-at.at (omega arith) (is (goal.at.returns-then-not-fits c).Else-not-is_digit) full)
 
 -- the value with the digit is at most what is allowed
-room : (c : Else-not-fits) →
-    let a = c.args in
-    c.loop-at.value * 10 + (get_or a.line.now c.loop-at.at 0 - 0x30) ≤ a.most
+room : (c : Else-not-fits) → c.loop-at.value * 10 + c.from-digit.result ≤ c.args.most
 room c = leb-true _ _ (sym c.fits.ensures ∙ c.if-not-fits.false)
 
 pub loop-at-preserved : goal.loop-at-preserved
 loop-at-preserved c =
     let a = c.args in
-    c.loop-at.invariant
-    ∙ digits_next a.most c.loop-at.value a.line.now c.loop-at.at (omega arith) (is (goal.at.loop-at-preserved c).Else-not-is_digit) (sym c.fits.ensures ∙ c.if-not-fits.false)
+    let fits = rw c.from-digit.ensures at (sym c.fits.ensures ∙ c.if-not-fits.false) in
+    rw c.from-digit.ensures
+    (c.loop-at.invariant
+    ∙ digits_next a.most c.loop-at.value a.line.now c.loop-at.at (omega arith) (is (goal.at.loop-at-preserved c).Else-not-is_digit) fits)
 
 pub returns : goal.returns
 unfolding as_number
 returns c =
     let a = c.args in
-    sym (c.loop-at.invariant ∙ digits_end a.most c.loop-at.value a.line.now c.loop-at.at c.loop-at-test.false)
+    sym (c.loop-at.invariant ∙ digits_end a.most c.loop-at.value a.line.now c.loop-at.at (omega arith))
 
 pub loop-at-init : goal.loop-at-init
 loop-at-init c = refl
 
-pub overflow_sub-digit : goal.overflow_sub-digit
-overflow_sub-digit c = digit_low _ (is c)
-
-pub overflow_cast-digit : goal.overflow_cast-digit
-overflow_cast-digit c = omega (arith, c.type_inv.line c.loop-at.at)
+pub overflow_sub-byte : goal.overflow_sub-byte
+overflow_sub-byte c = digit_low _ (is c)
 
 pub overflow_mul-value : goal.overflow_mul-value
 overflow_mul-value c = omega (arith, room c)

@@ -47,3 +47,7 @@ bounds-bytes-width c = omega (arith, width (goal.at.bounds-bytes-width c).After-
 
 pub overflow_add-result : goal.overflow_add-result
 overflow_add-result c = omega (arith, width (goal.at.overflow_add-result c).After-decimal_width-width)
+
+pub invariant_of-result : goal.invariant_of-result
+invariant_of-result c =
+    record { inside = omega (arith, width (goal.at.invariant_of-result c).After-decimal_width-width) }

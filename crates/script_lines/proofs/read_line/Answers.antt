@@ -2,19 +2,19 @@ use Rattle.base.proofs.Laws.{sym, ◌∙◌, arith}
 use Rattle.script_lines.proofs.{Reading.{line_long, line_short, line_unspaced, line_command, command_open, command-close, command_other}}
 use Rattle.script_lines.specs.Found.{as_call}
 use Rattle.script_lines.proofs.read_line.Goals as goal
+use Rattle.script_lines.proofs.read_line.Goals.{then-line-gt-LINE_LIMIT-via-then-line-gt-LINE_LIMIT, then-line-gt-LINE_LIMIT-via-else-line-gt-LINE_LIMIT+then-line-lt2, then-line-gt-LINE_LIMIT-via-else-line-gt-LINE_LIMIT+else-line-lt2+then-line-ne-SPACE}
 
 pub returns-then-line-gt-LINE_LIMIT : goal.returns-then-line-gt-LINE_LIMIT
 unfolding as_call
-returns-then-line-gt-LINE_LIMIT c = sym (line_long c.args.line.now c.if-line-gt-LINE_LIMIT.true)
-
-pub returns-then-line-lt2 : goal.returns-then-line-lt2
-unfolding as_call
-returns-then-line-lt2 c = sym (line_short c.args.line.now c.if-line-gt-LINE_LIMIT.false c.if-line-lt2.true)
-
-pub returns-then-line-ne-SPACE : goal.returns-then-line-ne-SPACE
-unfolding as_call
-returns-then-line-ne-SPACE c =
-    sym (line_unspaced c.args.line.now c.if-line-gt-LINE_LIMIT.false c.if-line-ne-SPACE.true)
+returns-then-line-gt-LINE_LIMIT c =
+    let line = c.args.line.now in
+    elim c.then-line-gt-LINE_LIMIT.branch [
+      | then-line-gt-LINE_LIMIT-via-then-line-gt-LINE_LIMIT w ↦ sym (line_long line w.if-line-gt-LINE_LIMIT.true)
+      | then-line-gt-LINE_LIMIT-via-else-line-gt-LINE_LIMIT+then-line-lt2 w ↦
+          sym (line_short line w.if-line-gt-LINE_LIMIT.false w.if-line-lt2.true)
+      | then-line-gt-LINE_LIMIT-via-else-line-gt-LINE_LIMIT+else-line-lt2+then-line-ne-SPACE w ↦
+          sym (line_unspaced line w.if-line-gt-LINE_LIMIT.false w.if-line-ne-SPACE.true)
+    ]
 
 pub returns-in-79 : goal.returns-in-79
 returns-in-79 c =

@@ -5,4 +5,4 @@ use Rattle.settle.proofs.mark_file.Goals as goal
 pub returns : goal.returns
 unfolding marked_file
 returns c =
-    rw c.read_file-f.ensures at c.write_file.ensures
+    rw c.read_file.ensures at c.write_file.ensures

@@ -6,4 +6,4 @@ use Rattle.settle.proofs.mark_stream.Goals as goal
 pub returns : goal.returns
 unfolding bare with_counts marked_bare marked_stream
 returns c =
-    rw c.read_stream-s.ensures at c.write_stream.ensures
+    rw c.read_stream.ensures at c.write_stream.ensures

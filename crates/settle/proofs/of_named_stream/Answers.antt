@@ -12,7 +12,7 @@ returns c =
     let a = c.args in
     rw (
       bare_at_lem (decode a.b.now).volume.streams a.o.stream,
-      ← c.read_stream-s.ensures,
-      units_empty c.read_stream-s.result.name,
+      ← c.read_stream.ensures,
+      units_empty c.read_stream.result.name,
       ← c.unit_at.ensures,
     )

@@ -6,4 +6,4 @@ use Rattle.settle.proofs.settle.Goals as goal
 pub returns : goal.returns
 unfolding settled tables_after
 returns c =
-    rw c.close_effect-e.ensures at c.write_effect.ensures
+    rw c.close_effect.ensures at c.write_effect.ensures

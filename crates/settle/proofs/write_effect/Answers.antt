@@ -1,4 +1,5 @@
 -- It goes by the effect.
+use Rattle.base.proofs.Laws.{arith}
 use Rattle.layout.proofs.Changes.{unchanged}
 use Rattle.store.specs.{Close.{files_after, links_after, streams_after}, Store.volume_after}
 use Rattle.tables.specs.Tables.{stream_at}
@@ -7,7 +8,7 @@ use Rattle.settle.proofs.write_effect.Goals as goal
 
 pub returns-in-Unchanged : goal.returns-in-Unchanged
 unfolding as_effect tables_after volume_after files_after links_after streams_after
-returns-in-Unchanged c = rw c.in-Unchanged.is (unchanged c.requires)
+returns-in-Unchanged c = rw c.in-Unchanged.is (unchanged (omega arith))
 
 pub returns-in-FileMarked : goal.returns-in-FileMarked
 unfolding as_effect tables_after volume_after files_after links_after streams_after

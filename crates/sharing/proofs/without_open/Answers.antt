@@ -1,18 +1,11 @@
 -- Each field is the difference with what the open adds.
-use Rattle.base.{specs.Base.count}
+use Rattle.base.{specs.Base.{◌≡◌, ◌-◌, count}, proofs.Laws.{◌∙◌, arith}}
+use Rattle.std.proofs.Common.{rules}
 use Rattle.sharing.specs.Sharing.{counts_of_all, holders, sharers, changed_by, without_open}
+use Rattle.sharing.proofs.Combining.{each_by, combined_by}
 use Rattle.sharing.proofs.without_open.Goals as goal
 
 pub returns : goal.returns
 unfolding count counts_of_all holders sharers changed_by without_open
 returns c =
-    rw (
-      c.minus-7.ensures,
-      c.minus-6.ensures,
-      c.minus-5.ensures,
-      c.minus-4.ensures,
-      c.minus-3.ensures,
-      c.minus-2.ensures,
-      c.minus.ensures,
-      c.counts_of_one-one.ensures,
-    )
+    combined_by (λ a b. a - b) (λ x y r h. search rules) c.args.c c.counts_of_one-one.result c.combined.result c.combined.ensures ∙ rw c.counts_of_one-one.ensures

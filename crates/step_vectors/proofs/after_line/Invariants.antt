@@ -1,9 +1,6 @@
 -- The loop's invariant: i is not before the line's start.
-use Rattle.base.specs.Base.{◌-◌, ◌≤◌, length}
+use Rattle.base.specs.Base.{◌≤◌}
 use Rattle.step_vectors.proofs.after_line.Given as goal
 
 abbrev pub invariant-loop-i : goal.invariant-loop-i
 invariant-loop-i l = l.at ≤ l.i
-
-abbrev pub decreases-loop-i : goal.decreases-loop-i
-decreases-loop-i l = length l.text - l.i

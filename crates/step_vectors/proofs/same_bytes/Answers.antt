@@ -1,23 +1,14 @@
-use Rattle.base.proofs.Laws.{refl, sym, ◌∙◌, arith, same_next, same_stops, same_end, same-lengths}
+use Rattle.base.{specs.Base.{ℕ, ◌≡◌, Bool, List, [], ◌∷◌, ◌&&◌, eqb, same}, proofs.Laws.{refl, ap, ◌∙◌}}
+use lib.Pointwise.{pointwise}
 use Rattle.step_vectors.proofs.same_bytes.Goals as goal
 
-pub returns-then-a-b : goal.returns-then-a-b
-returns-then-a-b c = sym (same-lengths c.args.a.now c.args.b.now c.if-a-b.true)
-
-pub returns-then-a-i : goal.returns-then-a-i
-returns-then-a-i c =
-    let s = c.args in
-    sym (c.loop-i.invariant.1 ∙ same_stops s.a.now s.b.now c.loop-i.i 0 0 (omega arith) (omega arith) c.if-a-i.true)
-
-pub loop-i-preserved : goal.loop-i-preserved
-loop-i-preserved c =
-    let s = c.args in
-    (c.loop-i.invariant.0, c.loop-i.invariant.1 ∙ same_next s.a.now s.b.now c.loop-i.i 0 0 (omega arith) (omega arith) c.if-a-i.false)
+-- the library's word and the definitions'
+pointwise_is : (xs ys : List ℕ) → pointwise eqb xs ys ≡ same xs ys
+unfolding same
+pointwise_is [] [] = refl
+pointwise_is [] (y ∷ ys) = refl
+pointwise_is (x ∷ xs) [] = refl
+pointwise_is (x ∷ xs) (y ∷ ys) = ap (λ (b : Bool). eqb x y && b) (pointwise_is xs ys)
 
 pub returns : goal.returns
-returns c =
-    let s = c.args in
-    sym (c.loop-i.invariant.1 ∙ same_end s.a.now s.b.now c.loop-i.i (omega arith) (omega arith))
-
-pub loop-i-init : goal.loop-i-init
-loop-i-init c = (c.if-a-b.false, refl)
+returns c = c.eq.ensures ∙ pointwise_is c.args.a.now c.args.b.now

@@ -1,7 +1,7 @@
 -- What the access rule grants on a used file may be stored: it is not zero, and lies within 0x1F01FF. The root is not
 -- granted to an open that deletes on close.
-use Rattle.base.{specs.Base.{ℕ, has, within, without, all, all_access, maximum_allowed, read_only, Namespace, status_number, accounts, file_used, is_data, mask_of, root, File, FileNo, Request, eqb, length, Bool, ◌&&◌, ◌||◌, cond, false, not, true, ◌≢◌, ◌≡◌}, proofs.Laws.{excluded, fails_iff, not_is, and_right, or_neither, all_slots, Ends, ends_bind, ends_test, goes, stops, eqb-false, not-false, not-true, ◌∙◌, refl, sym}}
-use Rattle.access.specs.{Access.{access_from, access_rule, checked_access, effective, need}, declared.Access.TheVariants.{Denied, Granted}}
+use Rattle.base.{specs.Base.{ℕ, has, within, without, all, all_access, maximum_allowed, read_only, Namespace, status_number, accounts, file_used, is_data, mask_of, root, File, FileNo, Request, eqb, length, Bool, ◌&&◌, ◌||◌, cond, false, not, true, ◌≢◌, ◌≡◌, none, some, some_or}, proofs.Laws.{excluded, fails_iff, not_is, and_right, or_neither, all_slots, Ends, ends_bind, ends_test, goes, stops, eqb-false, not-false, not-true, ◌∙◌, refl, sym}}
+use Rattle.access.specs.Access.{access_from, access_rule, checked_access, effective, need}
 use Rattle.bits.proofs.Sets.{within_less, within_self, within_trans, within_zero, without_none}
 use Rattle.consistency.{proofs.{Derived.file_good, Numbered.file_iff}, specs.{Good.GoodTerms, Relations.valid_masks}}
 use Rattle.tables.specs.Tables.{file_at}
@@ -28,7 +28,7 @@ effective-within f account h = go (is_data f.file_type && has f.attributes read_
 -- the rule over an effective mask
 from_ends : (mask access : ℕ) → access ≢ 0
     → Ends Early (λ g. (g ≢ 0) × (within g mask ≡ true)) (checked_access (access_from mask access))
-unfolding access_from checked_access need status_number
+unfolding access_from checked_access some_or need status_number
 from_ends mask access nz = go (not (within (need access) mask) || eqb mask 0) refl
   where
     kept : (b : Bool) → has access maximum_allowed ≡ b → within (need access) mask ≡ true → mask ≢ 0
@@ -38,7 +38,7 @@ from_ends mask access nz = go (not (within (need access) mask) || eqb mask 0) re
 
     go : (b : Bool) → (not (within (need access) mask) || eqb mask 0) ≡ b
         → Ends Early (λ g. (g ≢ 0) × (within g mask ≡ true))
-        (checked_access (cond b Denied (Granted (cond (has access maximum_allowed) mask (need access)))))
+        (checked_access (cond b none (some (cond (has access maximum_allowed) mask (need access)))))
     go true e = stops (refl, refl)
     go false e =
         let n = or_neither (not (within (need access) mask)) (eqb mask 0) e in

@@ -1,36 +1,16 @@
-use Rattle.base.{specs.Base.{◌≤◌, ◌-◌, ◌≡◌, length, drop}, proofs.Laws.{refl, sym, ◌∙◌, arith, rules}}
-use Rattle.units.proofs.{Compare.{equal_next, equal_stops, equal_end, equal-lengths}}
-use Rattle.units.specs.Units.{equal_units}
+-- Rows of one length are compared pair by pair; those of two lengths differ.
+use Rattle.base.proofs.Laws.{sym, ◌∙◌, ne_eqb, rules}
+use Rattle.std.proofs.{Common.{tests}, lemmas.{Iterator.{YieldsList-from_slice, YieldsList-from_zip}, Iterator.Search.{all_from_yields_List}}}
+use Rattle.units.proofs.Compare.{equal_pair, equal_zip, equal-lengths}
 use Rattle.units.proofs.equal_units.Goals as goal
 
 pub returns-then-a-b : goal.returns-then-a-b
 returns-then-a-b c =
     let s = c.args in
-    sym (equal-lengths s.fold s.a.now s.b.now c.if-a-b.true)
+    all_from_yields_List (equal_pair s.fold) c.all.new.self _ _ c.all.ensures.ran
+    (YieldsList-from_zip (YieldsList-from_slice s.a.now cc) (YieldsList-from_slice s.b.now cc))
+    (λ x b q k. search (rules, tests))
+    ∙ equal_zip s.fold s.a.now s.b.now c.if-a-b.true
 
-pub loop-i-init : goal.loop-i-init
-loop-i-init c = (omega arith, c.if-a-b.false, refl)
-
-pub returns-then-folded_unit : goal.returns-then-folded_unit
-returns-then-folded_unit c =
-    let l = c in
-    let s = l.args in
-    sym
-    (l.loop-i.invariant.2
-    ∙ equal_stops s.fold s.a.now s.b.now l.loop-i.i (omega arith) (omega arith) (λ e. c.if-folded_unit.true (c.folded_unit.ensures ∙ e ∙ sym c.folded_unit-in-loop-i.ensures)))
-
-pub loop-i-preserved : goal.loop-i-preserved
-loop-i-preserved c =
-    let l = c in
-    let s = l.args in (
-      omega arith,
-      l.loop-i.invariant.1,
-      l.loop-i.invariant.2
-          ∙ equal_next s.fold s.a.now s.b.now l.loop-i.i (omega arith) (omega arith) (sym c.folded_unit.ensures ∙ c.if-folded_unit.false ∙ c.folded_unit-in-loop-i.ensures),
-    )
-
-pub returns : goal.returns
-returns c =
-    let l = c in
-    let s = l.args in
-    sym (l.loop-i.invariant.2 ∙ equal_end s.fold s.a.now s.b.now l.loop-i.i (omega arith) (omega arith))
+pub returns-else-a-b : goal.returns-else-a-b
+returns-else-a-b c = ne_eqb _ _ c.if-a-b.false ∙ sym (equal-lengths _ _ _ c.if-a-b.false)

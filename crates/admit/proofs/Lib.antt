@@ -1,2 +1,0 @@
--- Laws that the proofs of what an open would do cite.
-pub mod NewFiles

@@ -1,0 +1,2 @@
+-- A law that the proof of the search cites.
+pub mod Lowest
