@@ -151,8 +151,10 @@ fn read_sharing(r: Request, f: File) -> SharingRule
 fn admit_existing(b: &TableBytes, r: Request, e: ExistingOpen) -> Result<PendingOpen, Status>
     ensures { (path : List ℕ) → as_checked (as_pending (decode b.now).volume.files path) result ≡ admit_existing (namespace (decode b.now).volume) r (as_existing e) }
 {
-    let terms = grant(b, r, e.file, e.terms.granted)?;
-    Ok(PendingOpen::Existing(ExistingOpen { terms, ..e }))
+    match grant(b, r, e.file, e.terms.granted) {
+        Ok(terms) => Ok(PendingOpen::Existing(ExistingOpen { terms, ..e })),
+        Err(denial) => Err(denial),
+    }
 }
 
 // Steps 10 and 11, open or open-if of what was found.
@@ -328,6 +330,8 @@ pub fn admit(
 ) -> Result<PendingOpen, Status>
     ensures { as_checked (as_pending (decode b.now).volume.files path.now) result ≡ admitted (namespace (decode b.now).volume) r (as_checked (as_target path.now) target) }
 {
-    let found = target?;
-    admit_target(b, r, path, found)
+    match target {
+        Ok(found) => admit_target(b, r, path, found),
+        Err(status) => Err(status),
+    }
 }

@@ -15,17 +15,27 @@ use audit_streams::streams_consistent;
 use layout::{TABLES_SIZE, TableBytes};
 use layout_stands::stands_for_tables;
 
-// Whether the tables are consistent.
-#[tactic(auto, unfolding(consistency::specs::Test::consistent), using(crate::proofs::Conflicts::no_two_conflict))]
+// Whether the tables are consistent. The walk over the opens decides once their counts are known to be true: as a chain of
+// returns an order in which it comes before them is refused.
 fn tables_consistent(b: &TableBytes) -> bool
     ensures { result ≡ consistent (decode b.now).volume (decode b.now).opens }
 {
-    files_consistent(b)
-        && links_consistent(b)
-        && streams_consistent(b)
-        && opens_consistent(b)
-        && no_conflicts(b)
-        && marks_consistent(b)
+    if !files_consistent(b) {
+        return false;
+    }
+    if !links_consistent(b) {
+        return false;
+    }
+    if !streams_consistent(b) {
+        return false;
+    }
+    if !opens_consistent(b) {
+        return false;
+    }
+    if !no_conflicts(b) {
+        return false;
+    }
+    marks_consistent(b)
 }
 
 // Whether the bytes stand for consistent tables.

@@ -249,6 +249,16 @@ fn verdict(tables: &TableBytes, lent: usize) -> bool {
     audit::audit(&tables[..lent.min(TABLES_SIZE)])
 }
 
+// What the audit says of a copy of the good tables with a case's changes.
+fn answer_changes(rt: &impl Print, mut tables: TableBytes, text: &[u8]) -> io::Result<()> {
+    let lent = put_all(rt, &mut tables, text)?;
+    if verdict(&tables, lent) {
+        rt.write_all(b" yes\n")
+    } else {
+        rt.write_all(b" no\n")
+    }
+}
+
 // A case: its name, and what the audit says of the good tables with its changes.
 fn answer_case(rt: &impl Print, good: &TableBytes, line: &[u8]) -> io::Result<()> {
     let colon = find(line, b':', 0);
@@ -256,13 +266,7 @@ fn answer_case(rt: &impl Print, good: &TableBytes, line: &[u8]) -> io::Result<()
     if colon == line.len() {
         return rt.write_all(b" ?\n");
     }
-    let mut tables = *good;
-    let lent = put_all(rt, &mut tables, &line[colon + 1..])?;
-    if verdict(&tables, lent) {
-        rt.write_all(b" yes\n")
-    } else {
-        rt.write_all(b" no\n")
-    }
+    answer_changes(rt, *good, &line[colon + 1..])
 }
 
 fn answer_line(rt: &impl Print, tables: &mut TableBytes, line: &[u8]) -> io::Result<()> {

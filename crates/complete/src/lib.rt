@@ -35,7 +35,9 @@ use sharing::share_check;
 fn open_place(b: &TableBytes) -> Result<(usize, Handle), Status>
     ensures { PlacesOpen (decode b.now) result }
 {
-    let row = free_open(b).ok_or(Status::TooManyOpenedFiles)?;
+    let Some(row) = free_open(b) else {
+        return Err(Status::TooManyOpenedFiles);
+    };
     let next = read_next(b);
     if next.0 == LAST_HANDLE {
         return Err(Status::InsufficientResources);
@@ -129,9 +131,13 @@ fn complete_file(
 ) -> Result<AcceptedOpen, Status>
     ensures { Decides (decode b.now) path.now result (definitions.complete (store_view (decode b.now)) (namespace (decode b.now).volume) deletes (creating (new_file f.dir (as_leaf path.now f.leaf) (as_file (decode b.now).volume.files f)) f.terms)) }
 {
-    let slots = file_slots(b, !part_of(path, f.leaf.stream).is_empty())?;
-    let placed = PlacedOpen::NewFile(f, slots);
-    finish(b, CreateAction::Created, placed, f.terms, deletes)
+    match file_slots(b, !part_of(path, f.leaf.stream).is_empty()) {
+        Ok(slots) => {
+            let placed = PlacedOpen::NewFile(f, slots);
+            finish(b, CreateAction::Created, placed, f.terms, deletes)
+        }
+        Err(status) => Err(status),
+    }
 }
 
 // Whether a pending open is accepted; `deletes` says whether it deletes on close.

@@ -8,11 +8,12 @@ ghost use Rattle.script_lines.specs.Print.{digit, digits, decimal_width, action_
 ghost use Rattle.reply_numbers.specs.Numbers.{answer_seen};
 ghost use Rattle.script_lines.specs.Found.{as_number, as_call, Holds, Prints};
 
-use crate::buffers::{PathUnits, Printed};
 use records::{Answer, CreateAction, Handle, Outcome, Request};
 use reply_numbers::{handle_of, status_of};
 
 pub mod buffers;
+
+pub use crate::buffers::{PathUnits, Printed};
 
 // A line's bytes, its line end not counted.
 pub const LINE_LIMIT: usize = 1024;

@@ -1,15 +1,15 @@
-// Runs the rules of step 4 on lines of standard input, one answer to a line. The input's bytes become units one by one.
+// Runs the rules of step 4 on lines of standard input, one answer to a line. The bytes of a line become units one by one.
 //   n NAME                  whether it is valid as a file name and as a stream name
 //   e A B                   whether two names have equal units, exactly and folded
 //   p PATH, d PATH, f PATH  the path taken apart, with no option, with option 0x1 and with option 0x40
 // Any other line, and one over 1,024 bytes, is answered by `?`.
 #![tactic(auto)]
 
-ghost use Rattle.std.specs.Prelude.{◌≡◌, cond, ◌%◌, eqb, get_or, IfOk};
+ghost use Rattle.std.specs.Prelude.{◌≡◌, cond, ◌++◌, ◌%◌, eqb, length, get_or, take, drop};
+ghost use Rattle.components.specs.Positions.{place_of};
 
 use components::{Part, find_sign, part_of, units_before};
 use paths::ParsedPath;
-use std::alloc::{AllocError, Global};
 use std::io;
 use std::io::{Input, Read};
 
@@ -18,7 +18,7 @@ const INPUT_LIMIT: usize = 0x1_0000;
 
 const LINE_LIMIT: usize = 1024;
 
-const LINE_END: u16 = 0x0A;
+const LINE_END: u8 = b'\n';
 
 const SPACE: u16 = 0x20;
 
@@ -29,11 +29,13 @@ fn byte_of(unit: u16) -> u8
     (unit % 256) as u8
 }
 
-// The bytes as units.
-fn units_of(alloc: Global, bytes: &[u8]) -> Result<Vec<u16>, AllocError>
-    ensures { IfOk result (λ units. units.items ≡ bytes.now) }
+// The bytes as units, from the buffer's start on, those that have a place there.
+fn write_units(bytes: &[u8], units: &mut [u16])
+    ensures { units.new ≡ take (length units.old) bytes.now ++ drop (length bytes.now) units.old }
 {
-    bytes.iter().map(|byte| u16::from(*byte)).collect(alloc)
+    for i in 0..bytes.len().min(units.len()) {
+        units[i] = u16::from(bytes[i]);
+    }
 }
 
 // The text where the test holds, else a dash.
@@ -118,12 +120,33 @@ fn answer_line(rt: &impl Print, line: &[u16]) -> io::Result<()> {
     }
 }
 
-// The lines in order; the last one may lack its line end.
-fn answer_lines(rt: &impl Print, input: &[u16]) -> io::Result<()> {
+// The bytes from a place on.
+fn bytes_from(input: &[u8], at: usize) -> &[u8]
+    ensures { result.now ≡ drop at input.now }
+{
+    input.get(at..).unwrap_or(&[])
+}
+
+// Where the line ends that starts at `at`.
+fn line_end(input: &[u8], at: usize) -> usize
+    ensures { result ≡ place_of 0x0A input.now at }
+{
+    let rest = bytes_from(input, at);
+    at + rest
+        .iter()
+        .position(|byte| *byte == LINE_END)
+        .unwrap_or(rest.len())
+}
+
+// The lines in order; the last one may lack its line end. Each is written to the buffer, which has a place more than a line may
+// have, so that a line that is too long stays so.
+fn answer_lines(rt: &impl Print, input: &[u8], units: &mut [u16]) -> io::Result<()> {
     let mut at = 0;
     while at < input.len() {
-        let end = find_sign(input, LINE_END, at);
-        answer_line(rt, &input[at..end])?;
+        let end = line_end(input, at);
+        let line = &input[at..end];
+        write_units(line, units);
+        answer_line(rt, units_before(units, line.len()))?;
         rt.write_all(b"\n")?;
         at = end + 1;
     }
@@ -138,5 +161,6 @@ fn held(input: &[u8]) -> &[u8] {
 fn main(rt: HostRuntime) -> io::Result<()> {
     let mut input = Vec::new(rt.alloc());
     rt.reader().read_to_end(&mut input)?;
-    answer_lines(&rt, &units_of(rt.alloc(), held(&input))?)
+    let mut units = [0; LINE_LIMIT + 1];
+    answer_lines(&rt, held(&input), &mut units)
 }

@@ -1,14 +1,11 @@
 -- A refusal stays, and a target is admitted.
-use Rattle.std.proofs.lemmas.Result.{err_from_is_err_and}
 use Rattle.base.specs.Base.{as_checked, ◌>>=◌}
 use Rattle.admit.proofs.admit.Goals as goal
 
-pub returns-in_err-found : goal.returns-in_err-found
+pub returns-in-Err : goal.returns-in-Err
 unfolding as_checked ◌>>=◌
-returns-in_err-found c =
-    let q = err_from_is_err_and c.from_residual.result c.from_residual.ensures.1 in
-    rw (q.1, q.2, c.in_err-found.was)
+returns-in-Err c = rw c.in-Err.is
 
-pub returns : goal.returns
+pub returns-in-Ok : goal.returns-in-Ok
 unfolding as_checked ◌>>=◌
-returns c = rw c.in_ok-found.was c.admit_target.ensures
+returns-in-Ok c = rw c.in-Ok.is c.admit_target.ensures

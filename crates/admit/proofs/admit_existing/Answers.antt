@@ -5,10 +5,10 @@ use Rattle.store.specs.Prepare.{admit_existing}
 use Rattle.open_steps.specs.Pendings.{as_pending, as_existing}
 use Rattle.admit.proofs.admit_existing.Goals as goal
 
-pub returns-in_err-terms : goal.returns-in_err-terms
+pub returns-in-Err : goal.returns-in-Err
 unfolding as_checked as_existing admit_existing ◌>>=◌
-returns-in_err-terms c = search rules
+returns-in-Err c = search rules
 
-pub returns : goal.returns
+pub returns-in-Ok : goal.returns-in-Ok
 unfolding as_checked as_pending as_existing admit_existing ◌>>=◌
-returns c = search rules
+returns-in-Ok c = search rules

@@ -22,8 +22,9 @@ returns-then-not-audit c =
 pub returns-then-not-row_fits : goal.returns-then-not-row_fits
 returns-then-not-row_fits c =
     let a = c.args in
-    rw (no_room a.tables.now a.first a.row.now (rw c.in-Some.ensures.cases.same at (sym c.audit.ensures ∙ c.if-not-audit.false))
-    (sym c.row_fits.ensures ∙ c.if-not-row_fits.true))
+    -- looked for by what it says, whichever test stands before
+    let sound : sound_bytes a.tables.now ≡ true = search (rules, c.in-Some.ensures.cases.same) in
+    rw (no_room a.tables.now a.first a.row.now sound (sym c.row_fits.ensures ∙ c.if-not-row_fits.true))
     (record { reply = refl; state = refl })
 
 pub loop-i-init : goal.loop-i-init

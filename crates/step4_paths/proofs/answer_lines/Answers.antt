@@ -8,16 +8,16 @@ line : (input : List ℕ) (at end : ℕ) → at ≤ length input → end ≡ pla
 line input at end h e = rw e (place-within 0x0A input at h)
 
 pub overflow_add-at : goal.overflow_add-at
-overflow_add-at g c = omega (arith, line c.args.input.now c.loop-at.at c.find_sign-end.result (omega arith) c.find_sign-end.ensures)
+overflow_add-at g c = omega (arith, line c.args.input.now c.loop-at.at c.line_end-end.result (omega arith) c.line_end-end.ensures)
 
 pub loop-at-smaller : goal.loop-at-smaller
-loop-at-smaller g c = omega (arith, line c.args.input.now c.loop-at.at c.find_sign-end.result (omega arith) c.find_sign-end.ensures)
+loop-at-smaller g c = omega (arith, line c.args.input.now c.loop-at.at c.line_end-end.result (omega arith) c.line_end-end.ensures)
 
-pub slice_bounds-answer_line-count : goal.slice_bounds-answer_line-count
-slice_bounds-answer_line-count g c = omega (arith, line c.args.input.now c.loop-at.at c.find_sign-end.result (omega arith) c.find_sign-end.ensures)
+pub slice_bounds-line-count : goal.slice_bounds-line-count
+slice_bounds-line-count g c = omega (arith, line c.args.input.now c.loop-at.at c.line_end-end.result (omega arith) c.line_end-end.ensures)
 
-pub slice_bounds-answer_line-start : goal.slice_bounds-answer_line-start
-slice_bounds-answer_line-start g c = omega (arith, line c.args.input.now c.loop-at.at c.find_sign-end.result (omega arith) c.find_sign-end.ensures)
+pub slice_bounds-line-start : goal.slice_bounds-line-start
+slice_bounds-line-start g c = omega (arith, line c.args.input.now c.loop-at.at c.line_end-end.result (omega arith) c.line_end-end.ensures)
 
-pub slice_bounds-answer_line-end : goal.slice_bounds-answer_line-end
-slice_bounds-answer_line-end g c = omega (arith, line c.args.input.now c.loop-at.at c.find_sign-end.result (omega arith) c.find_sign-end.ensures)
+pub slice_bounds-line-end : goal.slice_bounds-line-end
+slice_bounds-line-end g c = omega (arith, line c.args.input.now c.loop-at.at c.line_end-end.result (omega arith) c.line_end-end.ensures)
